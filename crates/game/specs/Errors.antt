@@ -1,0 +1,30 @@
+-- The five errors of a move, in the two parts in which the code looks for them. Rests on the rules.
+use Prim.Native.Nat.{ℕ, _+_, _*_, _<_}
+use mathlib.Core.Path.{_≡_, sym, ap, _∙_}
+use mathlib.Core.Bool.{Bool, true, false, cond, not, _&&_}
+use borrow.Author.Tests.{ltb-true}
+use lib.Dec.{eqb, ltb}
+use Rattle.rules.specs.Rules.{Position, code, state, board, boardStates, gameState, boardOf, cellOf, leads, moveError}
+use Rattle.rules.specs.Tests.{both-true}
+use Rattle.rules.specs.Boards.{code-states}
+
+-- the errors of cell c of board b, in a game in play
+abbrev pub cellError : Position → ℕ → ℕ → ℕ
+cellError p b c =
+    cond (not (eqb (code (boardStates (p .cells)) b) 0)) 13
+    (cond (not (leads (p .target) b)) 14
+    (cond (not (eqb (code (p .cells) (b * 9 + c)) 0)) 15 0))
+
+module _ (p : Position) (m : ℕ) where
+  pub error-out : (ltb (boardOf m) 9 && ltb (cellOf m) 9) ≡ false → moveError p m ≡ 11
+  unfolding moveError
+  error-out e = rw e
+
+  pub error-over : (ltb (boardOf m) 9 && ltb (cellOf m) 9) ≡ true → eqb (gameState p) 0 ≡ false → moveError p m ≡ 12
+  unfolding moveError
+  error-over e f = rw (e, f)
+
+  pub error-cell : (ltb (boardOf m) 9 && ltb (cellOf m) 9) ≡ true → eqb (gameState p) 0 ≡ true → moveError p m ≡ cellError p (boardOf m) (cellOf m)
+  unfolding moveError
+  error-cell e f =
+      rw (e, f, code-states (p .cells) (boardOf m) (ltb-true (boardOf m) 9 (both-true (ltb (boardOf m) 9) (ltb (cellOf m) 9) e .0)))

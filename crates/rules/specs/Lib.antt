@@ -1,0 +1,10 @@
+pub mod Rules
+pub mod Record
+pub mod Answers
+pub mod Tests
+pub mod Boards
+pub mod Legal
+pub mod States
+pub mod Checks
+pub mod LegalMoves
+pub mod Plays

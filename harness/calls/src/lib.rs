@@ -1,0 +1,12 @@
+//! What the oracle, the tool `uttt` and the comparison have in common: records, calls and answers
+//! as lines of text, and document 01's table of refusals as plain code. Nothing here comes from
+//! the original, and nothing here calls the proved library.
+
+pub mod hex;
+pub mod line;
+pub mod record;
+pub mod table;
+pub mod tool;
+
+pub use line::{Answer, Call, Fields, Kind};
+pub use record::Position;

@@ -1,0 +1,194 @@
+//! A call and its answer, each as a line of text:
+//!
+//! ```text
+//! moves RECORD [OUTPUT-LENGTH]                          COUNT MOVES
+//! replay RECORD MOVES [OUTPUT-LENGTH]                   RECORD
+//! search RECORD RULE POOL-NODES LIMIT BUDGET INTERVAL   the nine fields
+//!                                                       refused NUMBER INDEX
+//! ```
+//!
+//! Records and moves are hexadecimal, `-` for none. The output length is that of the lent buffer.
+
+use crate::hex;
+use crate::table::{MOVES_ROOM, RECORD_ROOM};
+use std::fmt;
+
+/// A buffer that a line asks for is lent up to this length.
+pub const LONGEST_OUTPUT: usize = 1_000_000;
+
+#[derive(Clone, Debug, PartialEq, Eq)]
+pub enum Call {
+    Moves { record: Vec<u8>, output: usize },
+    Replay { record: Vec<u8>, moves: Vec<u8>, output: usize },
+    Search { record: Vec<u8>, rule: u64, pool: u64, limit: u64, budget: u64, interval: u64 },
+}
+
+/// Which call it is.
+#[derive(Clone, Copy, Debug, PartialEq, Eq)]
+pub enum Kind {
+    Moves,
+    Replay,
+    Search,
+}
+
+impl Kind {
+    pub const ALL: [Kind; 3] = [Kind::Moves, Kind::Replay, Kind::Search];
+
+    /// The word that a call's line starts with.
+    pub fn name(self) -> &'static str {
+        match self {
+            Kind::Moves => "moves",
+            Kind::Replay => "replay",
+            Kind::Search => "search",
+        }
+    }
+}
+
+impl Call {
+    pub fn kind(&self) -> Kind {
+        match self {
+            Call::Moves { .. } => Kind::Moves,
+            Call::Replay { .. } => Kind::Replay,
+            Call::Search { .. } => Kind::Search,
+        }
+    }
+}
+
+/// The result of a search, in the order in which document 01 prints it.
+#[derive(Clone, Copy, Debug, PartialEq, Eq)]
+pub struct Fields {
+    pub verdict: Verdict,
+    pub proof: u64,
+    pub disproof: u64,
+    pub allocated: u64,
+    pub freed: u64,
+    pub proved: u64,
+    pub disproved: u64,
+    pub expanded: u64,
+    pub cause: u64,
+}
+
+#[derive(Clone, Copy, Debug, PartialEq, Eq)]
+pub enum Verdict {
+    Unknown,
+    True,
+    False,
+}
+
+#[derive(Clone, Debug, PartialEq, Eq)]
+pub enum Answer {
+    Moves(Vec<u8>),
+    Record(Vec<u8>),
+    Search(Fields),
+    Refused { number: u32, index: u64 },
+}
+
+impl Answer {
+    /// A refusal that names no move.
+    pub fn refused(number: u32) -> Answer {
+        Answer::Refused { number, index: 0 }
+    }
+}
+
+impl fmt::Display for Fields {
+    fn fmt(&self, f: &mut fmt::Formatter) -> fmt::Result {
+        write!(
+            f,
+            "{:?} {} {} {} {} {} {} {} {}",
+            self.verdict,
+            self.proof,
+            self.disproof,
+            self.allocated,
+            self.freed,
+            self.proved,
+            self.disproved,
+            self.expanded,
+            self.cause
+        )
+    }
+}
+
+impl fmt::Display for Answer {
+    fn fmt(&self, f: &mut fmt::Formatter) -> fmt::Result {
+        match self {
+            Answer::Moves(moves) => write!(f, "{} {}", moves.len(), hex::show(moves)),
+            Answer::Record(record) => write!(f, "{}", hex::show(record)),
+            Answer::Search(fields) => write!(f, "{}", fields),
+            Answer::Refused { number, index } => write!(f, "refused {} {}", number, index),
+        }
+    }
+}
+
+impl fmt::Display for Call {
+    fn fmt(&self, f: &mut fmt::Formatter) -> fmt::Result {
+        match self {
+            Call::Moves { record, output } => {
+                write!(f, "moves {}", hex::show(record))?;
+                write_output(f, *output, MOVES_ROOM)
+            }
+            Call::Replay { record, moves, output } => {
+                write!(f, "replay {} {}", hex::show(record), hex::show(moves))?;
+                write_output(f, *output, RECORD_ROOM)
+            }
+            Call::Search { record, rule, pool, limit, budget, interval } => {
+                write!(f, "search {} {} {} {} {} {}", hex::show(record), rule, pool, limit, budget, interval)
+            }
+        }
+    }
+}
+
+/// The output length is left out where it is the usual one.
+fn write_output(f: &mut fmt::Formatter, output: usize, usual: usize) -> fmt::Result {
+    if output == usual {
+        Ok(())
+    } else {
+        write!(f, " {}", output)
+    }
+}
+
+/// Reads a call, or says what is wrong with the line.
+pub fn parse(line: &str) -> Result<Call, String> {
+    let words: Vec<&str> = line.split_whitespace().collect();
+    match words.as_slice() {
+        [] => Err("no call".to_string()),
+        ["moves", record, rest @ ..] => {
+            Ok(Call::Moves { record: bytes("record", record)?, output: output(rest, MOVES_ROOM)? })
+        }
+        ["replay", record, moves, rest @ ..] => Ok(Call::Replay {
+            record: bytes("record", record)?,
+            moves: bytes("moves", moves)?,
+            output: output(rest, RECORD_ROOM)?,
+        }),
+        ["search", record, rule, pool, limit, budget, interval] => Ok(Call::Search {
+            record: bytes("record", record)?,
+            rule: number("rule", rule)?,
+            pool: number("pool", pool)?,
+            limit: number("limit", limit)?,
+            budget: number("budget", budget)?,
+            interval: number("interval", interval)?,
+        }),
+        ["moves", ..] => Err("moves takes RECORD [OUTPUT-LENGTH]".to_string()),
+        ["replay", ..] => Err("replay takes RECORD MOVES [OUTPUT-LENGTH]".to_string()),
+        ["search", ..] => Err("search takes RECORD RULE POOL-NODES LIMIT BUDGET INTERVAL".to_string()),
+        [other, ..] => Err(format!("no call is named {:?}", other)),
+    }
+}
+
+fn bytes(what: &str, text: &str) -> Result<Vec<u8>, String> {
+    hex::read(text).ok_or_else(|| format!("{}: {:?} is not whole bytes in hexadecimal, nor -", what, text))
+}
+
+fn number<T: std::str::FromStr>(what: &str, text: &str) -> Result<T, String> {
+    text.parse().map_err(|_| format!("{}: {:?} is not a number of 64 bits", what, text))
+}
+
+fn output(rest: &[&str], usual: usize) -> Result<usize, String> {
+    match rest {
+        [] => Ok(usual),
+        [length] => match number("output length", length)? {
+            length if length > LONGEST_OUTPUT => Err(format!("no buffer over {} bytes is lent", LONGEST_OUTPUT)),
+            length => Ok(length),
+        },
+        [_, more, ..] => Err(format!("nothing comes after the output length, but {:?} does", more)),
+    }
+}

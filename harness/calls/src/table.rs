@@ -1,0 +1,105 @@
+//! Document 01's table of refusals, checks 1 to 10, as plain code of our own. The original has no
+//! such checks, so these are not its answers: they decide what is handed to it, and they are what a
+//! refusal of the proved library is compared with. Refusals 11 to 15 are the original's own errors.
+//!
+//! Every function gives the lowest check that fails, or none.
+
+use crate::record::{Position, FREE_CHOICE, LENGTH, O, X};
+
+const LINES: [[usize; 3]; 8] = [[0, 1, 2], [3, 4, 5], [6, 7, 8], [0, 3, 6], [1, 4, 7], [2, 5, 8], [0, 4, 8], [2, 4, 6]];
+
+pub const LARGEST_POOL: u64 = 16_777_216;
+pub const LARGEST_INTERVAL: u64 = 1_000_000;
+pub const LARGEST_BUDGET: u64 = 1_000_000_000_000;
+pub const LARGEST_RULE: u64 = 2;
+/// Room that the answers need: a record, and the moves of an empty game.
+pub const RECORD_ROOM: usize = LENGTH;
+pub const MOVES_ROOM: usize = 81;
+
+/// A board, worked out from its cells.
+#[derive(Clone, Copy, Debug, PartialEq, Eq)]
+pub enum Board {
+    InPlay,
+    Drawn,
+    Won(u8),
+}
+
+pub fn has_line(marks: &[bool; 9]) -> bool {
+    LINES.iter().any(|line| line.iter().all(|i| marks[*i]))
+}
+
+fn cells_of(board: &[u8; 9], code: u8) -> [bool; 9] {
+    board.map(|c| c == code)
+}
+
+pub fn board_state(board: &[u8; 9]) -> Board {
+    if has_line(&cells_of(board, X)) {
+        Board::Won(X)
+    } else if has_line(&cells_of(board, O)) {
+        Board::Won(O)
+    } else if board.iter().all(|c| *c == X || *c == O) {
+        Board::Drawn
+    } else {
+        Board::InPlay
+    }
+}
+
+/// Whether `code` has a line of won boards.
+pub fn has_line_of_boards(position: &Position, code: u8) -> bool {
+    has_line(&position.cells.map(|board| board_state(&board) == Board::Won(code)))
+}
+
+/// The game is over: a line of boards, or no board in play.
+pub fn finished(position: &Position) -> bool {
+    has_line_of_boards(position, X)
+        || has_line_of_boards(position, O)
+        || position.cells.iter().all(|board| board_state(board) != Board::InPlay)
+}
+
+/// Checks 1 to 6.
+pub fn record_refusal(record: &[u8]) -> Option<u32> {
+    let Ok(bytes) = <&[u8; LENGTH]>::try_from(record) else {
+        return Some(1);
+    };
+    let position = Position::read(bytes);
+    let checks = [
+        (2, badly_coded(&position)),
+        (3, badly_counted(&position)),
+        (4, position.cells.iter().any(|b| has_line(&cells_of(b, X)) && has_line(&cells_of(b, O)))),
+        (5, badly_won(&position)),
+        (6, position.target < 9 && board_state(&position.cells[position.target as usize]) != Board::InPlay),
+    ];
+    first(&checks)
+}
+
+fn first(checks: &[(u32, bool)]) -> Option<u32> {
+    checks.iter().find(|(_, fails)| *fails).map(|(number, _)| *number)
+}
+
+fn badly_coded(position: &Position) -> bool {
+    let target_stands = position.target <= 8 || position.target == FREE_CHOICE;
+    position.cells.iter().flatten().any(|c| *c == 3) || !target_stands || position.last_bit == 1
+}
+
+fn badly_counted(position: &Position) -> bool {
+    let (x, o) = (position.count(X), position.count(O));
+    let x_to_move = position.side == 0;
+    !(x == o && x_to_move || x == o + 1 && !x_to_move)
+}
+
+fn badly_won(position: &Position) -> bool {
+    let (x, o) = (has_line_of_boards(position, X), has_line_of_boards(position, O));
+    let mover = if position.side == 0 { x } else { o };
+    x && o || mover
+}
+
+/// Checks 1 to 7 of replay (`room` is `RECORD_ROOM`) and of legal moves (`MOVES_ROOM`).
+pub fn output_refusal(record: &[u8], output: usize, room: usize) -> Option<u32> {
+    record_refusal(record).or(first(&[(7, output < room)]))
+}
+
+/// Checks 1 to 6 and 8 to 10 of search.
+pub fn search_refusal(record: &[u8], rule: u64, pool: u64, budget: u64, interval: u64) -> Option<u32> {
+    let settings = rule > LARGEST_RULE || !(1..=LARGEST_INTERVAL).contains(&interval) || budget > LARGEST_BUDGET;
+    record_refusal(record).or(first(&[(8, pool < 1), (9, pool > LARGEST_POOL), (10, settings)]))
+}

@@ -1,0 +1,84 @@
+//! Runs the proved library and the oracle on the same calls and compares every answer, and the
+//! bytes that must stay untouched. A difference prints the smallest call found that shows it, and
+//! fails.
+//!
+//! ```text
+//! compare [SEED [COUNT]]
+//! ```
+
+mod shrink;
+
+use calls::{Answer, Call};
+use oracle::generate::{self, Random};
+use std::collections::BTreeMap;
+use std::process::ExitCode;
+use uttt::ours;
+
+/// A tally of answers by what they are, so that the run shows what it covered.
+type Tally = BTreeMap<String, u64>;
+
+fn main() -> ExitCode {
+    let arguments: Vec<Option<u64>> = std::env::args().skip(1).map(|a| a.parse().ok()).collect();
+    let (seed, count) = match arguments.as_slice() {
+        [] => (1, 200_000),
+        [Some(seed)] => (*seed, 200_000),
+        [Some(seed), Some(count)] => (*seed, *count),
+        _ => {
+            eprintln!("usage: compare [SEED [COUNT]]");
+            return ExitCode::FAILURE;
+        }
+    };
+    let mut tally = Tally::new();
+    match first_difference(seed, count, &mut tally) {
+        None => {
+            println!("{} calls agree (seed {})", tally.values().sum::<u64>(), seed);
+            tally.iter().for_each(|(kind, times)| println!("{:>9}  {}", times, kind));
+            ExitCode::SUCCESS
+        }
+        Some(call) => {
+            report(&shrink::smallest(call, differs));
+            ExitCode::FAILURE
+        }
+    }
+}
+
+/// The oracle's cases, then `count` calls at random.
+fn first_difference(seed: u64, count: u64, tally: &mut Tally) -> Option<Call> {
+    let mut random = Random::new(seed);
+    let generated = (0..count).map(|_| {
+        let kind = random.pick(ours::LANDED);
+        generate::call(&mut random, kind)
+    });
+    let landed = oracle::cases::calls().filter(|call| ours::LANDED.contains(&call.kind()));
+    for call in landed.chain(generated) {
+        let theirs = oracle::answer(&call);
+        *tally.entry(kind(&call, &theirs)).or_default() += 1;
+        if ours::answer(&call) != Ok(theirs) {
+            return Some(call);
+        }
+    }
+    None
+}
+
+fn differs(call: &Call) -> bool {
+    ours::answer(call) != Ok(oracle::answer(call))
+}
+
+fn kind(call: &Call, answer: &Answer) -> String {
+    let outcome = match answer {
+        Answer::Refused { number, .. } => format!("refused {:>2}", number),
+        Answer::Search(fields) => format!("{:?}, cause {}", fields.verdict, fields.cause),
+        Answer::Moves(moves) if moves.is_empty() => "none".to_string(),
+        Answer::Moves(_) | Answer::Record(_) => "answered".to_string(),
+    };
+    format!("{:<6}  {}", call.kind().name(), outcome)
+}
+
+fn report(call: &Call) {
+    println!("different: {}", call);
+    println!("   oracle: {}", oracle::answer(call));
+    match ours::answer(call) {
+        Ok(answer) => println!("  library: {}", answer),
+        Err(message) => println!("  library: {}", message),
+    }
+}

@@ -1,0 +1,88 @@
+//! Smaller calls, tried one after the other until none of them shows the difference any more.
+
+use calls::record::{Position, EMPTY, FREE_CHOICE, LENGTH};
+use calls::table::{MOVES_ROOM, RECORD_ROOM};
+use calls::Call;
+
+/// The smallest call found from `call` on for which `differs` holds, as it does for `call`.
+pub fn smallest(call: Call, differs: impl Fn(&Call) -> bool) -> Call {
+    let mut found = call;
+    while let Some(smaller) = smaller(&found).into_iter().find(|c| differs(c)) {
+        found = smaller;
+    }
+    found
+}
+
+/// Each is smaller: fewer bytes, fewer cells taken, plainer settings.
+fn smaller(call: &Call) -> Vec<Call> {
+    match call {
+        Call::Moves { record, output } => {
+            let mut out: Vec<Call> = records(record).map(|record| Call::Moves { record, output: *output }).collect();
+            out.extend(usual(*output, MOVES_ROOM).map(|output| Call::Moves { record: record.clone(), output }));
+            out
+        }
+        Call::Replay { record, moves, output } => {
+            let with = |record: Vec<u8>, moves: Vec<u8>, output: usize| Call::Replay { record, moves, output };
+            let mut out: Vec<Call> = fewer(moves).map(|m| with(record.clone(), m, *output)).collect();
+            out.extend(records(record).map(|r| with(r, moves.clone(), *output)));
+            out.extend(usual(*output, RECORD_ROOM).map(|o| with(record.clone(), moves.clone(), o)));
+            out
+        }
+        Call::Search { record, rule, pool, limit, budget, interval } => {
+            let with = |record: Vec<u8>, pool, limit, budget, interval| Call::Search {
+                record,
+                rule: *rule,
+                pool,
+                limit,
+                budget,
+                interval,
+            };
+            let mut out: Vec<Call> =
+                lower(*budget).map(|b| with(record.clone(), *pool, *limit, b, *interval)).collect();
+            out.extend(lower(*pool).map(|p| with(record.clone(), p, *limit, *budget, *interval)));
+            out.extend(lower(*interval).map(|i| with(record.clone(), *pool, *limit, *budget, i)));
+            out.extend(lower(*limit).map(|l| with(record.clone(), *pool, l, *budget, *interval)));
+            out.extend(records(record).map(|r| with(r, *pool, *limit, *budget, *interval)));
+            out
+        }
+    }
+}
+
+/// The moves without one, or cut in half.
+fn fewer(moves: &[u8]) -> impl Iterator<Item = Vec<u8>> + '_ {
+    let halves = [moves.len() / 2].into_iter().filter(|half| *half < moves.len()).map(|half| moves[..half].to_vec());
+    halves.chain((0..moves.len()).rev().map(|left| [&moves[..left], &moves[left + 1..]].concat()))
+}
+
+/// The usual length, where it is another.
+fn usual(output: usize, usual: usize) -> impl Iterator<Item = usize> {
+    (output != usual).then_some(usual).into_iter()
+}
+
+/// A few smaller numbers.
+fn lower(number: u64) -> impl Iterator<Item = u64> {
+    [0, 1, number / 2, number.saturating_sub(1)].into_iter().filter(move |n| *n < number)
+}
+
+/// The record with one or two cells emptied; one of another length with its last byte dropped.
+fn records(record: &[u8]) -> Box<dyn Iterator<Item = Vec<u8>> + '_> {
+    let Ok(bytes) = <&[u8; LENGTH]>::try_from(record) else {
+        let shorter = record.len().checked_sub(1).map(|length| record[..length].to_vec());
+        return Box::new(shorter.into_iter());
+    };
+    let position = Position::read(bytes);
+    let taken: Vec<usize> = (0..81).filter(|at| position.cells[at / 9][at % 9] != EMPTY).collect();
+    let pairs: Vec<(usize, usize)> =
+        taken.iter().flat_map(|a| taken.iter().filter(move |b| a <= *b).map(move |b| (*a, *b))).collect();
+    let emptied = pairs.into_iter().map(move |(a, b)| {
+        let mut fewer = position;
+        fewer.cells[a / 9][a % 9] = EMPTY;
+        fewer.cells[b / 9][b % 9] = EMPTY;
+        if a == b {
+            fewer.side = 1 - fewer.side;
+        }
+        fewer.write().to_vec()
+    });
+    let free = (position.target != FREE_CHOICE).then(|| Position { target: FREE_CHOICE, ..position }.write().to_vec());
+    Box::new(emptied.chain(free))
+}

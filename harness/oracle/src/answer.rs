@@ -1,0 +1,99 @@
+//! The calls of document 01, answered by the original: replay by `make_move`, legal moves by
+//! `all_moves` (never on a finished position, where document 01 says there are none), search by
+//! `Prover::prove`. Refusals 1 to 10 come from `calls::table`.
+
+use crate::game::{Move, MoveError};
+use crate::load;
+use crate::prove::pn::{sizeof_node, Config, Prover};
+use crate::prove::Evaluation;
+use calls::line::Verdict;
+use calls::record::LENGTH;
+use calls::table::{self, MOVES_ROOM, RECORD_ROOM};
+use calls::{Answer, Call, Fields};
+
+/// Answers any call.
+pub fn answer(call: &Call) -> Answer {
+    match call {
+        Call::Moves { record, output } => refused_or(table::output_refusal(record, *output, MOVES_ROOM), || {
+            Answer::Moves(legal_moves(accepted(record)))
+        }),
+        Call::Replay { record, moves, output } => {
+            refused_or(table::output_refusal(record, *output, RECORD_ROOM), || match replay(accepted(record), moves) {
+                Ok(after) => Answer::Record(after.to_vec()),
+                Err((number, index)) => Answer::Refused { number, index },
+            })
+        }
+        Call::Search { record, rule, pool, limit, budget, interval } => {
+            refused_or(table::search_refusal(record, *rule, *pool, *budget, *interval), || {
+                Answer::Search(search(accepted(record), *rule, *pool, *limit, *budget, *interval))
+            })
+        }
+    }
+}
+
+fn refused_or(refusal: Option<u32>, result: impl FnOnce() -> Answer) -> Answer {
+    refusal.map_or_else(result, Answer::refused)
+}
+
+/// A record that passed the checks.
+fn accepted(record: &[u8]) -> &[u8; LENGTH] {
+    record.try_into().expect("check 1 passed")
+}
+
+/// The record after the moves, or the first bad move's number in the table and its index.
+pub fn replay(record: &[u8; LENGTH], moves: &[u8]) -> Result<[u8; LENGTH], (u32, u64)> {
+    let mut game = load::game(record);
+    for (index, byte) in moves.iter().enumerate() {
+        let (board, cell) = (byte / 16, byte % 16);
+        game =
+            game.make_move(Move::from_coords(board as usize, cell as usize)).map_err(|e| (number(e), index as u64))?;
+    }
+    Ok(load::record(&game))
+}
+
+/// The error's number in document 01's table.
+pub fn number(error: MoveError) -> u32 {
+    match error {
+        MoveError::OutOfBounds => 11,
+        MoveError::GameOver => 12,
+        MoveError::WonBoard => 13,
+        MoveError::WrongBoard => 14,
+        MoveError::NotEmpty => 15,
+    }
+}
+
+pub fn legal_moves(record: &[u8; LENGTH]) -> Vec<u8> {
+    let game = load::game(record);
+    if game.game_over() {
+        return Vec::new();
+    }
+    let moves = game.all_moves().map(|m| m.bits()).collect();
+    moves
+}
+
+pub fn search(record: &[u8; LENGTH], rule: u64, pool: u64, limit: u64, budget: u64, interval: u64) -> Fields {
+    let config = Config {
+        max_memory: (limit as usize).checked_mul(sizeof_node()),
+        rule,
+        pool,
+        budget,
+        interval: interval as usize,
+        ..Default::default()
+    };
+    let result = Prover::prove(&config, &load::game(record));
+    Fields {
+        verdict: match result.result {
+            Evaluation::True => Verdict::True,
+            Evaluation::False => Verdict::False,
+            Evaluation::Unknown => Verdict::Unknown,
+        },
+        proof: result.proof.into(),
+        disproof: result.disproof.into(),
+        allocated: result.allocated as u64,
+        freed: result.freed as u64,
+        proved: result.stats.proved as u64,
+        disproved: result.stats.disproved as u64,
+        expanded: result.stats.expanded as u64,
+        cause: result.cause.into(),
+    }
+}

@@ -1,0 +1,73 @@
+//! Calls at random, the same for the same seed: records reached by play and accepted ones that no
+//! game reaches, damaged ones, right and wrong moves, settings in and out of range.
+
+mod damaged;
+mod moves;
+mod positions;
+mod random;
+mod settings;
+
+pub use random::Random;
+
+use calls::record::{Position, EMPTY, LENGTH};
+use calls::table::{board_state, Board, MOVES_ROOM, RECORD_ROOM};
+use calls::{Call, Kind};
+
+/// A call of the given kind.
+pub fn call(random: &mut Random, kind: Kind) -> Call {
+    match kind {
+        Kind::Moves => {
+            let record = record(random);
+            Call::Moves { record, output: output(random, MOVES_ROOM) }
+        }
+        Kind::Replay => {
+            let record = record(random);
+            let moves = match <&[u8; LENGTH]>::try_from(record.as_slice()) {
+                Ok(bytes) if positions::is_accepted(&Position::read(bytes)) => moves::moves(random, bytes),
+                _ => (0..random.below(4)).map(|_| random.byte()).collect(),
+            };
+            Call::Replay { record, moves, output: output(random, RECORD_ROOM) }
+        }
+        Kind::Search => search(random),
+    }
+}
+
+/// Any record: accepted ones most often.
+fn record(random: &mut Random) -> Vec<u8> {
+    match random.below(10) {
+        0..=2 => damaged::damaged(random),
+        3..=5 => positions::reachable(random).write().to_vec(),
+        6 => positions::ending(random).write().to_vec(),
+        _ => positions::accepted(random).write().to_vec(),
+    }
+}
+
+/// The length of the lent buffer: the usual one most often, else around it.
+fn output(random: &mut Random, usual: usize) -> usize {
+    match random.below(10) {
+        0 => random.pick(&[0, 1, usual - 1]),
+        1 => random.index(usual),
+        2 => usual + random.index(60),
+        _ => usual,
+    }
+}
+
+fn search(random: &mut Random) -> Call {
+    let record = match random.below(8) {
+        0..=2 => positions::ending(random).write().to_vec(),
+        3..=5 => positions::late(random).write().to_vec(),
+        _ => record(random),
+    };
+    let small = match <&[u8; LENGTH]>::try_from(record.as_slice()) {
+        Ok(bytes) => open_cells(&Position::read(bytes)) > 14,
+        Err(_) => false,
+    };
+    let s = settings::settings(random, small);
+    Call::Search { record, rule: s.rule, pool: s.pool, limit: s.limit, budget: s.budget, interval: s.interval }
+}
+
+/// Empty cells of boards in play.
+fn open_cells(position: &Position) -> usize {
+    let open = position.cells.iter().filter(|board| board_state(board) == Board::InPlay);
+    open.flatten().filter(|c| **c == EMPTY).count()
+}

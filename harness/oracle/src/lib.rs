@@ -1,0 +1,32 @@
+//! The oracle: the original search, built from its own sources with the patches of build/patches.rs,
+//! and the calls of document 01 answered by it. Where the original has no counterpart (refusals 1 to
+//! 10) `calls::table` answers.
+
+/// Modules of the original, as patched by build.rs.
+#[allow(warnings, clippy::all)]
+pub mod game {
+    include!(concat!(env!("OUT_DIR"), "/game.rs"));
+}
+#[allow(warnings, clippy::all)]
+pub mod progress {
+    include!(concat!(env!("OUT_DIR"), "/progress.rs"));
+}
+#[allow(warnings, clippy::all, dangerous_implicit_autorefs)]
+pub mod prove {
+    include!(concat!(env!("OUT_DIR"), "/prove.rs"));
+    pub mod node_pool {
+        include!(concat!(env!("OUT_DIR"), "/node_pool.rs"));
+    }
+    pub mod pn {
+        include!(concat!(env!("OUT_DIR"), "/pn.rs"));
+    }
+}
+
+mod answer;
+pub mod cases;
+pub mod generate;
+pub mod load;
+mod simd;
+mod util;
+
+pub use answer::{answer, legal_moves, replay, search};

@@ -1,0 +1,5 @@
+//! The proved library behind the same calls and answers as the oracle.
+
+mod ffi;
+mod lent;
+pub mod ours;
