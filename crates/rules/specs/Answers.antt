@@ -1,15 +1,15 @@
--- Laws of `answers`, the list f i, f (i + 1), ..: its length, its elements, one more at the end, and when it is a given list. Rests on Rules.
+-- Laws of `answers`, the list f i, f (i + 1), ..: its length, its elements, one more at the end, when it is a given list, when all of it passes, and after one store. Rests on Rules.
 use mathlib.Core.Path.{_≡_, refl, sym, ap, _∙_}
 use mathlib.Core.Bool.{Bool, true}
 use mathlib.Core.List.{List, [], _∷_, _++_}
 use Prim.Native.Nat.{ℕ, zero, suc, _+_, _<_}
 use native.Mathlib.Nat.{not-suc-le-zero, le-of-suc-le-suc, add-zero, zero-add}
+use native.Mathlib.Numerals.{add-one}
 use native.Mathlib.Decide.{ℕ-discrete}
 use native.Mathlib.Omega.{arith}
 use lib.ListN.{getD, length, set, length-set}
 use lib.Seq.{ext-getD, getD-set-same, getD-set-other}
 use Rattle.rules.specs.Rules.{answers, all}
-use Rattle.rules.specs.Tests.{both-true}
 
 module _ {ℓ} {A : Type ℓ} (f : ℕ → A) where
   pub length-answers : (i n : ℕ) → length (answers f i n) ≡ n
@@ -21,9 +21,6 @@ module _ {ℓ} {A : Type ℓ} (f : ℕ → A) where
   answers-at i (suc n) zero d h = rw add-zero
   answers-at i (suc n) (suc k) d h = let e : suc i + k ≡ i + suc k = omega arith in answers-at (suc i) n k d (le-of-suc-le-suc h) ∙ ap f e
 
-  pub answer-at : (n k : ℕ) (d : A) → k < n → getD (answers f 0 n) k d ≡ f k
-  answer-at n k d h = answers-at 0 n k d h ∙ rw zero-add
-
   -- answer k of those counted from 0
   pub answers-zero : (n k : ℕ) (d : A) → k < n → getD (answers f 0 n) k d ≡ f k
   answers-zero n k d h = answers-at 0 n k d h ∙ rw zero-add
@@ -33,17 +30,19 @@ module _ {ℓ} {A : Type ℓ} (f : ℕ → A) where
   answers-more i zero = rw add-zero
   answers-more i (suc n) = let e : suc i + n ≡ i + suc n = omega arith in ap (_∷_ (f i)) (answers-more (suc i) n ∙ ap (λ k. answers f (suc i) n ++ (f k ∷ [])) e)
 
+  pub answers-next : (n : ℕ) → answers f 0 (n + 1) ≡ answers f 0 n ++ (f n ∷ [])
+  answers-next n = ap (answers f 0) (add-one n) ∙ answers-more 0 n ∙ rw zero-add
+
   -- the answers are the elements of a list, so they are that list
   pub answers-are : (l : List A) (n : ℕ) (d : A) → length l ≡ n → ((k : ℕ) → k < n → f k ≡ getD l k d) → answers f 0 n ≡ l
   answers-are l n d e same =
       ext-getD d (answers f 0 n) l (rw (length-answers 0 n) (omega arith))
-      (λ k h. let g : k < n = omega (arith, length-answers 0 n) in answer-at n k d g ∙ same k g)
+      (λ k h. let g : k < n = omega (arith, length-answers 0 n) in answers-zero n k d g ∙ same k g)
 
--- Every element of a list that passes `all` passes.
-pub all-at {ℓ} : {A : Type ℓ} (f : A → Bool) (l : List A) (i : ℕ) (d : A) → i < length l → all f l ≡ true → f (getD l i d) ≡ true
-all-at f [] i d h e = absurd (not-suc-le-zero h)
-all-at f (x ∷ l) zero d h e = both-true (f x) (all f l) e .0
-all-at f (x ∷ l) (suc i) d h e = all-at f l i d (le-of-suc-le-suc h) (both-true (f x) (all f l) e .1)
+-- answers that all pass
+pub all-answers {ℓ} : {A : Type ℓ} (f : A → Bool) (g : ℕ → A) → ((k : ℕ) → f (g k) ≡ true) → (i n : ℕ) → all f (answers g i n) ≡ true
+all-answers f g h i zero = refl
+all-answers f g h i (suc n) = rw (h i) (all-answers f g h (suc i) n)
 
 module _ {ℓ} {A : Type ℓ} (f g : ℕ → A) (n b : ℕ) (other : (k : ℕ) → (k ≡ b → ⊥) → g k ≡ f k) where
   store-at : (k : ℕ) (d : A) → k < n → Dec (k ≡ b) → getD (answers g 0 n) k d ≡ getD (set (answers f 0 n) b (g b)) k d

@@ -8,3 +8,6 @@ pub mod States
 pub mod Checks
 pub mod LegalMoves
 pub mod Plays
+pub mod Bits
+pub mod Roundtrip
+pub mod Cases

@@ -1,0 +1,29 @@
+-- A game as the search sees it, the value of a position for the root's side, and N, the number of legal move sequences. Rests on nothing.
+use mathlib.Core.List.{List, [], _∷_, map, foldr}
+use mathlib.Core.Bool.{Bool, true, false, _||_, _&&_, cond}
+use Prim.Native.Nat.{ℕ, zero, suc, _+_}
+
+pub record Game : Type 1 where
+  pub Pos : Type 0
+  pub moves : Pos → List ℕ  -- the legal moves in move order; a finished position has none
+  pub play : Pos → ℕ → Pos
+  pub mine : Pos → Bool  -- the root's side is to move
+  pub final : Pos → Bool  -- the value of a finished position for the root's side: the draw rule is here alone
+  pub left : Pos → ℕ  -- a number that falls at each legal move
+
+-- Worked out backwards: f of a position and of what comes out after each of its legal moves, k moves deep
+unfoldable pub backward : (G : Game) {A : Type 0} → (G .Pos → List A → A) → ℕ → G .Pos → A
+backward G f zero p = f p []
+backward G f (suc k) p = f p (map (λ m. backward G f k (G .play p m)) (G .moves p))
+
+-- Document 01, "Draw rules and value": a finished position has its own value; otherwise the root's side needs one move to true, the other side one to false
+unfoldable pub valueFrom : (G : Game) → G .Pos → List Bool → Bool
+valueFrom G p [] = G .final p
+valueFrom G p (v ∷ vs) = cond (G .mine p) (foldr _||_ false (v ∷ vs)) (foldr _&&_ true (v ∷ vs))
+
+unfoldable pub value : (G : Game) → G .Pos → Bool  -- play is over when nothing is left
+value G p = backward G (valueFrom G) (G .left p) p
+
+-- N of the third condition: the empty sequence, and those that begin with each legal move (Sequences.antt: it is their number)
+unfoldable pub sequences : (G : Game) → G .Pos → ℕ
+sequences G p = backward G (λ q ns. suc (foldr _+_ 0 ns)) (G .left p) p

@@ -1,0 +1,78 @@
+-- The searches among the cases of document 01, 'Positions to try', as the plain machine's results: those marked *, as one lemma, and the other two of E.
+-- Rests on Plain; everything is computed.
+use mathlib.Core.Path.{_≡_, refl}
+use mathlib.Core.List.{List}
+use Prim.Native.Nat.{ℕ, _-_, _/_, _%_, _^_}
+use Rattle.rules.specs.Rules.{answers, hasLine, state, board, boardStates, gameState, play, legalMoves, drawn, finalValue}
+use Rattle.rules.specs.Record.{bitAt, positionOf}
+use Rattle.machine.specs.Machine.{Settings, Result, Verdict, True, False, Unknown}
+use Rattle.machine.specs.Compute.{computed}
+use Rattle.plain.specs.Plain.{searchOf, plainSearch}
+
+-- The 21 bytes of a record written as one number, the first byte its most significant.
+abbrev pub record21 : ℕ → List ℕ
+record21 n = answers (λ k. n / 256 ^ (20 - k) % 256) 0 21
+
+abbrev pub settings : ℕ → ℕ → ℕ → ℕ → Settings
+settings pool limit budget interval = record { pool = pool; limit = limit; budget = budget; interval = interval }
+
+-- The program judge's limit and interval, with a pool and a budget; and judge's own.
+abbrev pub judgeWith : ℕ → ℕ → Settings
+judgeWith pool budget = settings pool 18446744073709551615 budget 10000
+
+abbrev pub judge : Settings
+judge = judgeWith 3276 100000
+
+-- The nine fields of a result in document 01's order.
+abbrev pub fields : Verdict → ℕ → ℕ → ℕ → ℕ → ℕ → ℕ → ℕ → ℕ → Result
+fields v p d a f pr di e c = record { verdict = v; proof = p; disproof = d; allocated = a; freed = f; proved = pr; disproved = di; expanded = e; cause = c }
+
+-- The plain machine's search of a record with every definition open, so that it computes.
+unfoldable pub computedSearch : ℕ → Settings → List ℕ → Result
+unfolding hasLine state board boardStates gameState play legalMoves drawn finalValue bitAt positionOf computed searchOf
+computedSearch rule S bytes = plainSearch rule S bytes
+
+-- A case that names no rule: the result under each of the three.
+abbrev pub UnderEach : Settings → List ℕ → Result → Type 0
+UnderEach S bytes r = (plainSearch 0 S bytes ≡ r) × (plainSearch 1 S bytes ≡ r) × (plainSearch 2 S bytes ≡ r)
+
+abbrev pub E : List ℕ
+E = record21 0x780000000000000000000000000000000000000000
+
+abbrev pub W : List ℕ
+W = record21 0x12A000A80028051500054000000000000000000000
+
+abbrev pub D : List ℕ
+D = record21 0x7AB400AC0054001500054000A8002A000A80054000
+
+pub record Starred : Type 0 where
+  pub E-spent : UnderEach (judgeWith 3276 0) E (fields Unknown 1 1 1 0 0 0 0 1)
+  pub E-fits : UnderEach (judgeWith 82 1) E (fields Unknown 1 81 82 0 0 0 1 1)
+  pub E-short : UnderEach (judgeWith 81 1) E (fields Unknown 1 1 1 0 0 0 0 2)
+  pub W-won : UnderEach (judgeWith 6 1) W (fields True 0 2147483648 2 1 1 0 1 0)
+  pub W-short : UnderEach (judgeWith 5 1) W (fields Unknown 1 1 1 0 0 0 0 2)
+  pub D-rule0 : plainSearch 0 judge D ≡ fields False 2147483648 0 1 0 0 0 0 0
+  pub D-rule1 : plainSearch 1 judge D ≡ fields False 2147483648 0 1 0 0 0 0 0
+  pub D-rule2 : plainSearch 2 judge D ≡ fields True 0 2147483648 1 0 0 0 0 0
+
+pub starred : Starred
+unfolding computedSearch
+starred = record {
+  E-spent = (refl, refl, refl);
+  E-fits = (refl, refl, refl);
+  E-short = (refl, refl, refl);
+  W-won = (refl, refl, refl);
+  W-short = (refl, refl, refl);
+  D-rule0 = refl;
+  D-rule1 = refl;
+  D-rule2 = refl;
+}
+
+-- E after two expansions, and with one node too few for the second.
+E-two : UnderEach (judgeWith 90 2) E (fields Unknown 1 81 90 0 0 0 2 1)
+unfolding computedSearch
+E-two = (refl, refl, refl)
+
+E-one : UnderEach (judgeWith 89 2) E (fields Unknown 1 81 82 0 0 0 1 2)
+unfolding computedSearch
+E-one = (refl, refl, refl)

@@ -1,0 +1,90 @@
+-- The laws that the machine asks of a game, for every rule, root side and position; what an accepted position adds; and what N counts.
+-- Rests on Plain and the laws of rules.
+use mathlib.Core.Path.{_≡_, refl, ap, _∙_, subst}
+use mathlib.Core.Bool.{Bool, true, false, not}
+use mathlib.Core.List.{List, [], _∷_, foldr, List·Memᴰ, List·Memᴰ·not-nil}
+use mathlib.Core.Logic.{_↔_}
+use Prim.Native.Nat.{ℕ, zero, suc, _+_, _≤_, _<_}
+use native.Mathlib.Omega.{arith}
+use borrow.Author.Tests.{eqb-true}
+use lib.Dec.{eqb}
+use lib.ListN.{length}
+use Rattle.rules.specs.Rules.{Player, Position, other, same, gameState, legalMoves, play, count, moveError, replay, Replayed, Reached, BadMove}
+use Rattle.rules.specs.Rules.Player.{X, O}
+use Rattle.rules.specs.Record.{Accepted}
+use Rattle.rules.specs.LegalMoves.{Ascending, ascending, in-legal, legal-in, finished-none, unfinished-some}
+use Rattle.rules.specs.Plays.{turn-passes, one-less, count-length}
+use Rattle.machine.specs.Game.{backward, sequences}
+use Rattle.machine.specs.Value.{Lawful}
+use Rattle.machine.specs.Sequences.{Distinct, Legal, Enumerates, sequences-list, sequences-count}
+use Rattle.plain.specs.Plain.{game, gameOf, sequencesOf}
+
+same-itself : (s : Player) → same s s ≡ true
+same-itself X = refl
+same-itself O = refl
+
+same-other : (s t : Player) → same s (other t) ≡ not (same s t)
+same-other X X = refl
+same-other X O = refl
+same-other O X = refl
+same-other O O = refl
+
+pub lawful : (rule : ℕ) (root : Player) → Lawful (game rule root)
+lawful rule root = record {
+  falls = λ p m i. omega (arith, one-less p m (in-legal p m i));
+  turns = λ p m i. ap (same root) (turn-passes p m) ∙ same-other root (p .side);
+}
+
+ascending-distinct : (l : List ℕ) → Ascending l → Distinct l
+ascending-distinct [] a = tt
+ascending-distinct (m ∷ l) a = (λ i. let h : m < m = a .0 m i in omega arith, ascending-distinct l (a .1))
+
+-- No legal move stands twice.
+pub moves-distinct : (p : Position) → Distinct (legalMoves p)
+moves-distinct p = ascending-distinct (legalMoves p) (ascending p)
+
+-- At the root it is the root's side that is to move.
+pub root-mine : (rule : ℕ) (p : Position) → gameOf rule p .mine p ≡ true
+root-mine rule p = same-itself (p .side)
+
+-- An accepted position: at most 81 moves are left, and it has no legal move exactly if it is finished.
+module _ (p : Position) (a : Accepted p) where
+  pub left-most : count 0 (p .cells) ≤ 81
+  left-most = omega (arith, count-length 0 (p .cells), a .whole)
+
+  pub none-finished : (legalMoves p ≡ []) ↔ (gameState p ≡ 0 → ⊥)
+  none-finished = (λ e g. let r = unfinished-some p a g in List·Memᴰ·not-nil (subst (List·Memᴰ (r .0)) e (r .1)), finished-none p)
+
+-- What is worked out from moves and play alone is the same for every rule and root side; so is N.
+backward-same : {A : Type 0} (f : Position → List A → A) (rule rule' : ℕ) (root root' : Player) (k : ℕ) (p : Position)
+    → backward (game rule root) f k p ≡ backward (game rule' root') f k p
+unfolding backward
+backward-same f rule rule' root root' zero p = refl
+backward-same f rule rule' root root' (suc k) p = simp (backward-same f rule rule' root root' k)
+
+pub sequences-same : (rule : ℕ) (root : Player) (p : Position) → sequences (game rule root) p ≡ sequencesOf p
+unfolding sequences sequencesOf
+sequences-same rule root p = backward-same (λ q ns. suc (foldr _+_ 0 ns)) rule 0 root (p .side) (count 0 (p .cells)) p
+
+-- N is what it says: a list of just the legal move sequences, none twice, has that length, and there is one.
+pub sequences-length : (rule : ℕ) (root : Player) (p : Position) (l : List (List ℕ)) → Enumerates (game rule root) p l → length l ≡ sequencesOf p
+sequences-length rule root p l e = sequences-count (game rule root) (lawful rule root) moves-distinct p l e ∙ sequences-same rule root p
+
+pub sequences-listed : (rule : ℕ) (root : Player) (p : Position) → (l : List (List ℕ)) × Enumerates (game rule root) p l
+sequences-listed rule root p = sequences-list (game rule root) (lawful rule root) moves-distinct p
+
+-- The sequences that N counts are the lists of moves that replay makes.
+pub legal-replay : (rule : ℕ) (root : Player) (p : Position) (ms : List ℕ) (i : ℕ) → Legal (game rule root) p ms → (q : Position) × (replay p ms i ≡ Reached q)
+unfolding replay
+legal-replay rule root p [] i h = (p, refl)
+legal-replay rule root p (m ∷ ms) i h = rw (in-legal p m (h .0), replay) (legal-replay rule root (play p m) ms (suc i) (h .1))
+
+pub replay-legal : (rule : ℕ) (root : Player) (p : Position) (ms : List ℕ) (i : ℕ) (q : Position) → replay p ms i ≡ Reached q → Legal (game rule root) p ms
+unfolding replay
+replay-legal rule root p [] i q e = tt
+replay-legal rule root p (m ∷ ms) i q e = go (eqb (moveError p m) 0) refl e (λ h. replay-legal rule root (play p m) ms (suc i) q h)
+  where
+    go : (t : Bool) → eqb (moveError p m) 0 ≡ t → _≡_ {A = Replayed} (elim t [ true ↦ replay (play p m) ms (suc i) | false ↦ BadMove (moveError p m) i ]) (Reached q)
+        → (replay (play p m) ms (suc i) ≡ Reached q → Legal (game rule root) (play p m) ms) → List·Memᴰ m (legalMoves p) × Legal (game rule root) (play p m) ms
+    go true t h k = (legal-in p m (eqb-true (moveError p m) 0 t), k h)
+    go false t h k = let z : _≡_ {A = ℕ} 0 1 = cc in absurd (omega arith)

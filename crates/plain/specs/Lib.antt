@@ -1,0 +1,5 @@
+pub mod Plain
+pub mod Cases
+pub mod Oracle
+pub mod Laws
+pub mod TwoSearches

@@ -1,0 +1,133 @@
+-- Checks 2 to 6 as the code makes them, on what it keeps of a position's boards. Rests on Reading and Marks.
+use mathlib.Core.Path.{_≡_, refl, ap, sym, _∙_}
+use mathlib.Core.Bool.{Bool, true, false, cond, not, _&&_, _||_}
+use mathlib.Core.List.{List, [], _∷_}
+use Prim.Native.Nat.{ℕ, suc, _+_, _<_, _≤_}
+use native.Mathlib.Nat.{add-zero}
+use native.Mathlib.Numerals.{add-one}
+use native.Mathlib.Decide.{decLt}
+use native.Mathlib.Omega.{arith}
+use borrow.Author.Tests.{eq-eqb, ne-eqb, lt-ltb, le-ltb, ltb-true}
+use lib.Dec.{eqb, ltb, eqb·suc-zero}
+use lib.ListN.{take}
+use lib.Seq.{take-all}
+use Rattle.rules.specs.Rules.{Player, mark, code, all, count, hasLine, boardStates}
+use Rattle.rules.specs.Rules.Player.{X, O}
+use Rattle.rules.specs.Record.{sideBit, fairTurn, bothLines, positionRefusal}
+use Rattle.rules.specs.Tests.{both-true}
+use Rattle.rules.specs.Boards.{length-states}
+use Rattle.game.specs.Masks.{hasBit, has-bit, nonzero}
+use Rattle.game.specs.Lines.{lineIn}
+use Rattle.record.specs.declared.Boards.{Boards}
+use Rattle.record.specs.Reading.{Whole, Checking, targetRefusal, sideMask}
+use Rattle.record.specs.Marks.{whole-lt, x-line, o-line, done-mask}
+use Rattle.record.specs.Added.{count-le}
+
+-- Codes below 4 are all below 3 if none is 3.
+no-threes : (cs : List ℕ) → all (λ c. ltb c 4) cs ≡ true → all (λ c. ltb c 3) cs ≡ eqb (count 3 cs) 0
+no-threes [] h = refl
+no-threes (c ∷ cs) h = let s = both-true (ltb c 4) _ h in rw (no-threes cs (s .1)) (go (decLt c 3))
+  where
+    go : Dec (c < 3) → (ltb c 3 && eqb (count 3 cs) 0) ≡ eqb (cond (eqb c 3) (suc (count 3 cs)) (count 3 cs)) 0
+    go (yes l) = rw (lt-ltb c 3 l, ne-eqb c 3 (λ e. omega arith))
+    go (no g) = let e : c ≡ 3 = omega (arith, ltb-true c 4 (both-true (ltb c 4) _ h .0)) in rw e (sym (eqb·suc-zero (count 3 cs)))
+
+fair : (s : Player) (x o : ℕ) → fairTurn s x o ≡ eqb x (o + sideBit s)
+fair X x o = rw add-zero
+fair O x o = rw add-one
+
+-- If both sides have a line, the side to move has one.
+own-line : (s : Player) (cs : List ℕ) → (bothLines cs || hasLine (mark s) cs) ≡ hasLine (mark s) cs
+own-line X cs = go (hasLine 1 cs) (hasLine 2 cs)
+  where
+    go : (a b : Bool) → (a && b || a) ≡ a
+    go true true = refl
+    go true false = refl
+    go false b = refl
+own-line O cs = go (hasLine 1 cs) (hasLine 2 cs)
+  where
+    go : (a b : Bool) → (a && b || b) ≡ b
+    go true true = refl
+    go true false = refl
+    go false b = refl
+
+-- Checks 3, 4 and 5, and then k.
+abbrev pub later : Bool → Bool → Bool → ℕ → ℕ
+later f b w k = cond f 3 (cond b 4 (cond w 5 k))
+
+-- The target's checks, 2 and 6, made at once: l and q for a target below 9, below 15, e for 15, h and n for a done board.
+order : (a l e q h n f b w : Bool) → (l ≡ true → n ≡ h) → (l ≡ false → e ≡ not q)
+    → cond (not (a && (l || e))) 2 (later f b w (cond (l && n) 6 0))
+    ≡ cond (not a) 2 (cond (eqb (cond l (cond h 6 0) (cond q 2 0)) 2) 2 (later f b w (cond l (cond h 6 0) (cond q 2 0))))
+order false l e q h n f b w i j = refl
+order true true e q true n f b w i j = rw (i refl)
+order true true e q false n f b w i j = rw (i refl)
+order true false e true h n f b w i j = rw (j refl)
+order true false e false h n f b w i j = rw (j refl)
+
+module _ (r : Boards) (t s : ℕ) (g : Checking r t s) where
+  -- the states of the nine boards
+  unfoldable pub states : Whole (r .states)
+  unfolding boardStates
+  states = record { codes = boardStates (g .position .cells); count = length-states (g .position .cells); masks = g .reads .states }
+
+  pub states-lt : (r .states .x < 512) × (r .states .o < 512) × (r .states .rest < 512)
+  states-lt = whole-lt (r .states) states
+
+  abbrev pub doneBits : ℕ
+  doneBits = r .states .x + r .states .o + r .states .rest
+
+  counted : (k n : ℕ) → n ≡ count k (take 81 (g .position .cells)) → n ≡ count k (g .position .cells)
+  counted k n e = e ∙ ap (count k) (take-all 81 (g .position .cells) (omega (arith, g .whole)))
+
+  cells-coded : all (λ c. ltb c 3) (g .position .cells) ≡ eqb (r .rest) 0
+  cells-coded = no-threes (g .position .cells) (g .small) ∙ ap (λ n. eqb n 0) (sym (counted 3 (r .rest) (g .reads .rest)))
+
+  turn : fairTurn (g .position .side) (count 1 (g .position .cells)) (count 2 (g .position .cells)) ≡ eqb (r .xs) (r .os + s)
+  turn = fair (g .position .side) _ _ ∙ rw (counted 1 (r .xs) (g .reads .xs), counted 2 (r .os) (g .reads .os), g .moves)
+
+  won : (p : Player) → s ≡ sideBit p → hasLine (mark p) (boardStates (g .position .cells)) ≡ lineIn (sideMask (r .states) s)
+  unfolding states
+  won X e = rw e (sym (x-line (r .states) states))
+  won O e = rw e (sym (o-line (r .states) states))
+
+  done : t < 9 → not (eqb (code (boardStates (g .position .cells)) t) 0) ≡ hasBit doneBits t
+  unfolding states
+  done h = rw (done-mask (r .states) states) (sym (has-bit nonzero (boardStates (g .position .cells)) t (omega (arith, length-states (g .position .cells)))))
+
+  -- Checks 2 to 6 in the code's terms.
+  pub check-law : positionRefusal (g .position)
+      ≡ cond (not (eqb (r .rest) 0)) 2
+      (cond (eqb (targetRefusal t doneBits) 2) 2
+      (later (not (eqb (r .xs) (r .os + s))) (r .both) (lineIn (sideMask (r .states) s)) (targetRefusal t doneBits)))
+  unfolding positionRefusal
+  check-law =
+      rw (cells-coded, turn, sym (g .reads .both), own-line (g .position .side) (boardStates (g .position .cells)) ∙ won (g .position .side) (g .moves), ← g .aims)
+      (order (eqb (r .rest) 0) (ltb t 9) (eqb t 15) (ltb t 15) (hasBit doneBits t) (not (eqb (code (boardStates (g .position .cells)) t) 0))
+      (not (eqb (r .xs) (r .os + s))) (r .both) (lineIn (sideMask (r .states) s)) below above)
+    where
+      below : ltb t 9 ≡ true → not (eqb (code (boardStates (g .position .cells)) t) 0) ≡ hasBit doneBits t
+      below e = done (ltb-true t 9 e)
+
+      above : ltb t 9 ≡ false → eqb t 15 ≡ not (ltb t 15)
+      above e = fifteen (decLt t 15)
+        where
+          fifteen : Dec (t < 15) → eqb t 15 ≡ not (ltb t 15)
+          fifteen (yes l) = rw (lt-ltb t 15 l, ne-eqb t 15 (λ q. omega arith))
+          fifteen (no n) = rw (le-ltb t 15 (omega arith), eq-eqb t 15 (omega (arith, g .low)))
+
+  -- the rest of them once check 2 has passed, n being what was said of the target
+  pub coded-law : (n : ℕ) → n ≡ targetRefusal t doneBits → r .rest ≡ 0 → (n ≡ 2 → ⊥)
+      → positionRefusal (g .position) ≡ later (not (eqb (r .xs) (r .os + s))) (r .both) (lineIn (sideMask (r .states) s)) n
+  coded-law n e z q = check-law ∙ rw (← e, eq-eqb (r .rest) 0 z, ne-eqb n 2 q)
+
+  -- what the code adds up fits, and the mask of a side is nine bits
+  pub own-lt : sideMask (r .states) s < 512
+  own-lt = go (eqb s 0)
+    where
+      go : (b : Bool) → cond b (r .states .x) (r .states .o) < 512
+      go true = states-lt .0
+      go false = states-lt .1
+
+  pub os-few : r .os ≤ 81
+  os-few = rw (counted 2 (r .os) (g .reads .os)) (omega (arith, count-le 2 (g .position .cells), g .whole))

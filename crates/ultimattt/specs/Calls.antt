@@ -1,0 +1,48 @@
+-- What each call answers and what it leaves in the lent bytes, as one function of what comes in. The checks come in the order of the table under
+-- 'Turned back', and a refusal leaves every byte as it was. Rests on the rules and their record.
+use mathlib.Core.Bool.{cond, not}
+use mathlib.Core.List.{List, _++_}
+use Prim.Native.Nat.{ℕ}
+use lib.Dec.{eqb, ltb}
+use lib.ListN.{length, drop}
+use Rattle.rules.specs.Rules.{Replayed, legalMoves, replay}
+use Rattle.rules.specs.Rules.Replayed.{Reached, BadMove}
+use Rattle.rules.specs.Record.{positionOf, recordOf, refusal}
+
+-- Replay: 0 or the number of the refusal; the index of the bad move, 0 elsewhere; the output afterwards.
+pub record ReplayOutcome : Type 0 where
+  pub number : ℕ
+  pub index : ℕ
+  pub output : List ℕ
+
+abbrev pub replayOutcome : ℕ → ℕ → List ℕ → ReplayOutcome
+replayOutcome n i out = record { number = n; index = i; output = out }
+
+-- Checks 11 to 15, and the record afterwards; output bytes past its 21 are untouched.
+unfoldable pub afterMoves : Replayed → List ℕ → ReplayOutcome
+afterMoves (Reached p) out = replayOutcome 0 0 (recordOf p ++ drop 21 out)
+afterMoves (BadMove n i) out = replayOutcome n i out
+
+unfoldable pub replayCall : (bytes moves out : List ℕ) → ReplayOutcome
+replayCall bytes moves out =
+    cond (not (eqb (refusal bytes) 0)) (replayOutcome (refusal bytes) 0 out)
+    (cond (ltb (length out) 21) (replayOutcome 7 0 out)
+    (afterMoves (replay (positionOf bytes) moves 0) out))
+
+-- Legal moves: 0 or the number of the refusal; how many there are; the output afterwards, untouched past the last move.
+pub record MovesOutcome : Type 0 where
+  pub number : ℕ
+  pub count : ℕ
+  pub output : List ℕ
+
+abbrev pub movesOutcome : ℕ → ℕ → List ℕ → MovesOutcome
+movesOutcome n k out = record { number = n; count = k; output = out }
+
+abbrev pub listed : List ℕ → List ℕ → MovesOutcome
+listed moves out = movesOutcome 0 (length moves) (moves ++ drop (length moves) out)
+
+unfoldable pub movesCall : (bytes out : List ℕ) → MovesOutcome
+movesCall bytes out =
+    cond (not (eqb (refusal bytes) 0)) (movesOutcome (refusal bytes) 0 out)
+    (cond (ltb (length out) 81) (movesOutcome 7 0 out)
+    (listed (legalMoves (positionOf bytes)) out))

@@ -1,0 +1,6 @@
+pub mod Calls
+pub mod Answers
+pub mod Turned
+pub mod Playing
+pub mod Writing
+pub mod Cases

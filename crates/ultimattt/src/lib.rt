@@ -1,0 +1,204 @@
+// The calls of the library: replay and legal moves of a record, and their exports.
+
+ghost use mathlib.Core.Path.{_≡_};
+ghost use mathlib.Core.List.{_++_};
+ghost use Prim.Native.Nat.{ℕ, _+_, _≤_};
+ghost use lib.ListN.{length, drop};
+ghost use Rattle.rules.specs.Rules.{Position, legalMoves, replay};
+ghost use Rattle.game.specs.Numbers.{errorNumber};
+ghost use Rattle.game.specs.Lines.{lineTable};
+ghost use Rattle.game.specs.Words.{Holds, Held};
+ghost use Rattle.ultimattt.specs.Calls.{replayOutcome, movesOutcome, afterMoves, replayCall, movesCall};
+ghost use Rattle.ultimattt.specs.Answers.{replayed, listing};
+ghost use Rattle.ultimattt.specs.Playing.{Played};
+ghost use Rattle.ultimattt.specs.Writing.{Written};
+use game::Game;
+use game::Move;
+use game::MoveError;
+use game::MoveResult;
+use game::cursor::MoveIterator;
+use game::cursor::Step;
+
+// The shortest output that takes a record, and the shortest that takes every legal move.
+const RECORD_LENGTH: usize = 21;
+
+const MOVES_LENGTH: usize = 81;
+
+// The answer of replay: the record is written, or a check refused it, or a move is bad, with its index.
+pub enum Replayed {
+    Done,
+    Refused(u8),
+    BadMove(MoveError, usize),
+}
+
+// The answer of legal moves: their count, or the check that turned the call back.
+pub enum Listed {
+    Count(usize),
+    Turned(u8),
+}
+
+// Moves made one after the other: the result of the last one tried, its index, and the position that was reached.
+pub struct Line {
+    pub result: MoveResult,
+    pub index: usize,
+    pub game: Game,
+}
+
+// Makes the moves, up to the first bad one.
+fn play_line(table: &[u8; 512], start: Game, moves: &[u8]) -> Line
+    requires { ⌜ (now table ≡ lineTable) × Held (start .words) 0 ⌝ }
+    ensures { λ r. ⌜ ((p : Position) → Holds p (start .words) 0 → Played p (now (moves .entry)) r) ⌝ }
+{
+    let mut game = start;
+    let mut i: usize = 0;
+    while i < moves.len() {
+        let made = game.make_move(table, Move(moves[i]));
+        let result = made.result;
+        game = made.game;
+        if let MoveResult::Err(_) = result {
+            return Line {
+                result,
+                index: i,
+                game,
+            };
+        }
+        i += 1;
+    }
+    Line {
+        result: MoveResult::Ok,
+        index: 0,
+        game,
+    }
+}
+
+// Writes the legal moves from the front of the output on, and counts them.
+fn write_moves(table: &[u8; 512], words: &[u16], out: &mut [u8]) -> usize
+    requires { ⌜ (now table ≡ lineTable) × Held (now words) 0 × (81 ≤ length (now out)) ⌝ }
+    ensures { λ r. ⌜ ((p : Position) → Holds p (now (words .entry)) 0 → Written (legalMoves p) (now (out .entry)) (now (out .exit)) r) ⌝ }
+{
+    let mut cursor = MoveIterator::from_game(table, words, 0);
+    let mut n: usize = 0;
+    loop {
+        let step = cursor.next(words, 0);
+        match step {
+            Step::Next(m, rest) => {
+                out[n] = m.0;
+                n += 1;
+                cursor = rest;
+            }
+            Step::End => return n,
+        }
+    }
+}
+
+// An error's number in the table of refusals.
+fn error_number(e: MoveError) -> u32
+    ensures { λ r. ⌜ r ≡ errorNumber e ⌝ }
+{
+    match e {
+        MoveError::OutOfBounds => 11,
+        MoveError::GameOver => 12,
+        MoveError::WonBoard => 13,
+        MoveError::WrongBoard => 14,
+        MoveError::NotEmpty => 15,
+    }
+}
+
+// Replays moves from a position and writes the record afterwards.
+fn replay_from(start: Game, moves: &[u8], out: &mut [u8]) -> Replayed
+    requires { ⌜ Held (start .words) 0 × (21 ≤ length (now out)) ⌝ }
+    ensures { λ r. ⌜ ((p : Position) → Holds p (start .words) 0 → replayed r (now (out .exit)) ≡ afterMoves (replay p (now (moves .entry)) 0) (now (out .entry))) ⌝ }
+{
+    let table = game::line_table();
+    let line = play_line(&table, start, moves);
+    let result = line.result;
+    match result {
+        MoveResult::Ok => {
+            let game = line.game;
+            record::store(out, game);
+            Replayed::Done
+        }
+        MoveResult::Err(e) => Replayed::BadMove(e, line.index),
+    }
+}
+
+// Replays moves from a record and writes the record afterwards.
+pub fn replay(bytes: &[u8], moves: &[u8], out: &mut [u8]) -> Replayed
+    ensures { λ r. ⌜ replayed r (now (out .exit)) ≡ replayCall (now (bytes .entry)) (now (moves .entry)) (now (out .entry)) ⌝ }
+{
+    let loaded = record::load(bytes);
+    if loaded.code != 0 {
+        return Replayed::Refused(loaded.code);
+    }
+    if out.len() < RECORD_LENGTH {
+        return Replayed::Refused(7);
+    }
+    let start = loaded.game;
+    replay_from(start, moves, out)
+}
+
+// Lists the legal moves of a record.
+pub fn legal_moves(bytes: &[u8], out: &mut [u8]) -> Listed
+    ensures { λ r. ⌜ listing r (now (out .exit)) ≡ movesCall (now (bytes .entry)) (now (out .entry)) ⌝ }
+{
+    let loaded = record::load(bytes);
+    if loaded.code != 0 {
+        return Listed::Turned(loaded.code);
+    }
+    if out.len() < MOVES_LENGTH {
+        return Listed::Turned(7);
+    }
+    let game = loaded.game;
+    let words = game.words;
+    let table = game::line_table();
+    Listed::Count(write_moves(&table, &words, out))
+}
+
+// The answer of replay as C has it: code is 0 or the refusal's number, index the bad move's with 11 to 15 and 0 elsewhere.
+#[repr(C)]
+pub struct ReplayAnswer {
+    pub code: u32,
+    pub index: u64,
+}
+
+#[no_mangle]
+pub extern "C" fn uttt_replay(bytes: &[u8], moves: &[u8], out: &mut [u8]) -> ReplayAnswer
+    ensures { λ r. ⌜ replayOutcome (r .code) (r .index) (now (out .exit)) ≡ replayCall (now (bytes .entry)) (now (moves .entry)) (now (out .entry)) ⌝ }
+{
+    let answer = replay(bytes, moves, out);
+    match answer {
+        Replayed::Done => ReplayAnswer { code: 0, index: 0 },
+        Replayed::Refused(n) => ReplayAnswer {
+            code: n as u32,
+            index: 0,
+        },
+        Replayed::BadMove(e, i) => ReplayAnswer {
+            code: error_number(e),
+            index: i as u64,
+        },
+    }
+}
+
+// The answer of legal moves as C has it: code is 0 or the refusal's number, count how many moves were written.
+#[repr(C)]
+pub struct MovesAnswer {
+    pub code: u32,
+    pub count: u64,
+}
+
+#[no_mangle]
+pub extern "C" fn uttt_legal_moves(bytes: &[u8], out: &mut [u8]) -> MovesAnswer
+    ensures { λ r. ⌜ movesOutcome (r .code) (r .count) (now (out .exit)) ≡ movesCall (now (bytes .entry)) (now (out .entry)) ⌝ }
+{
+    let answer = legal_moves(bytes, out);
+    match answer {
+        Listed::Count(n) => MovesAnswer {
+            code: 0,
+            count: n as u64,
+        },
+        Listed::Turned(n) => MovesAnswer {
+            code: n as u32,
+            count: 0,
+        },
+    }
+}
