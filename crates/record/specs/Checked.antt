@@ -116,6 +116,10 @@ module _ (r : Boards) (t s : ℕ) (g : Checking r t s) where
           fifteen (yes l) = rw (lt-ltb t 15 l, ne-eqb t 15 (λ q. omega arith))
           fifteen (no n) = rw (le-ltb t 15 (omega arith), eq-eqb t 15 (omega (arith, g .low)))
 
+  -- check 2 of the target, n being what was said of it
+  pub target-law : (n : ℕ) → n ≡ targetRefusal t doneBits → r .rest ≡ 0 → n ≡ 2 → n ≡ positionRefusal (g .position)
+  target-law n e z q = q ∙ sym (check-law ∙ rw (← e, eq-eqb (r .rest) 0 z, q))
+
   -- the rest of them once check 2 has passed, n being what was said of the target
   pub coded-law : (n : ℕ) → n ≡ targetRefusal t doneBits → r .rest ≡ 0 → (n ≡ 2 → ⊥)
       → positionRefusal (g .position) ≡ later (not (eqb (r .xs) (r .os + s))) (r .both) (lineIn (sideMask (r .states) s)) n

@@ -6,7 +6,7 @@ use borrow.Author.Tests.{eq-eqb, ne-eqb}
 use borrow.Author.Needs.{needs}
 use Rattle.rules.specs.Roundtrip.{side-lt}
 use Rattle.game.specs.Lines.{lineIn}
-use Rattle.record.specs.Checked.{check-law, coded-law, states-lt, own-lt, os-few}
+use Rattle.record.specs.Checked.{check-law, target-law, coded-law, states-lt, own-lt, os-few}
 use Rattle.record.proofs.check.Statement.{statement}
 use Rattle.record.proofs.check.Tie as tie
 
@@ -20,12 +20,18 @@ check-target-requires : tie.Need-check-target-requires
 check-target-requires c κs = search needs
 
 returns : tie.Need-returns
-returns c g = sym (check-law _ _ _ g ∙ rw (ne-eqb _ _ (c .if1 .taken)))
+returns c g =
+    let boards = c .before .before .before .before .before .before .args .boards in
+    let some : boards .rest ≡ 0 → ⊥ = λ e. omega (arith, c .if1 .taken) in
+    sym (check-law _ _ _ g ∙ rw (ne-eqb _ _ some))
 
 returns-2 : tie.Need-returns-2
 returns-2 c g =
+    let boards = c .before .before .before .before .before .before .before .args .boards in
+    let none : boards .rest ≡ 0 = omega (arith, c .before .if1 .left) in
     let named = c .before .before .before .check-target in
-    c .if2 .taken ∙ sym (check-law _ _ _ g ∙ rw (eq-eqb _ _ (c .before .if1 .left), eq-eqb _ 2 (sym (named .ensures) ∙ c .if2 .taken)))
+    let two : named .result ≡ 2 = omega (arith, c .if2 .taken) in
+    target-law _ _ _ g _ (named .ensures) none two
 
 add-if3 : tie.Need-add-if3
 add-if3 c =

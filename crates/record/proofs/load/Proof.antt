@@ -15,7 +15,7 @@ returns c =
     (c .refused .ensures ∙ refused-1 bs (λ e. omega (arith, c .before .if1 .taken)), λ z. absurd (omega (arith, c .refused .ensures)))
 
 bit-at-requires : tie.Need-bit-at-requires
-bit-at-requires c κs = search needs
+bit-at-requires c κs = omega arith
 
 refused-requires-2 : tie.Need-refused-requires-2
 refused-requires-2 c κs = search needs

@@ -25,7 +25,7 @@ slice-aggregate-record-byte : tie.Need-slice-aggregate-record-byte Inv-loop μ-l
 slice-aggregate-record-byte c = search needs
 
 record-byte-requires : tie.Need-record-byte-requires Inv-loop μ-loop
-record-byte-requires c κs = (c .before .before .before .before .before .pre .1, c .before .loop-test .taken)
+record-byte-requires c κs = (c .before .before .before .before .before .pre .1, omega arith)
 
 slice-write-out : tie.Need-slice-write-out Inv-loop μ-loop
 slice-write-out c = omega (arith, c .before .before .before .before .before .before .pre .0)
