@@ -6,9 +6,10 @@ use mathlib.Core.List.{List, [], _∷_}
 use native.Mathlib.Nat.{not-suc-le-zero, le-of-suc-le-suc, pow-succ', pow-zero, div-one, zero-div, div-div-eq-div-mul}
 use native.Mathlib.Omega.{arith}
 use borrow.Author.Tests.{eq-eqb, ne-eqb, ltb-true}
+use lib.Count.{ones, ones-step}
 use lib.ListN.{length, getD, set}
 use lib.Dec.{eqb, ltb, eqb·zero-suc, eqb·suc-zero}
-use Rattle.rules.specs.Rules.{code, all, any}
+use Rattle.rules.specs.Rules.{code, all, any, count}
 use Rattle.rules.specs.Tests.{both-true}
 
 -- 1 if the test is true
@@ -90,7 +91,7 @@ rest : (b : Bool) (m z n : ℕ) → z + m + 1 ≡ n → bit b + z * 2 + (bit (no
 rest true m z n e = omega arith
 rest false m z n e = omega arith
 
-mask-rest : (cs : List ℕ) → mask 0 cs + maskOf nonzero cs + 1 ≡ 2 ^ length cs
+pub mask-rest : (cs : List ℕ) → mask 0 cs + maskOf nonzero cs + 1 ≡ 2 ^ length cs
 mask-rest [] = rw (pow-zero 2)
 mask-rest (c ∷ cs) = rw (pow-succ' 2 (length cs)) (rest (eqb c 0) (maskOf nonzero cs) (mask 0 cs) (2 ^ length cs) (mask-rest cs))
 
@@ -110,3 +111,15 @@ full cs n = rw (no-zero cs) (go (mask 0 cs) (maskOf nonzero cs) (mask-rest cs �
     go : (z m : ℕ) → z + m + 1 ≡ 512 → eqb m 511 ≡ not (not (eqb z 0))
     go zero m e = eq-eqb m 511 (omega arith)
     go (suc z) m e = ne-eqb m 511 (λ q. omega arith) ∙ rw (eqb·suc-zero z)
+
+-- how many codes are k, as bits that are set
+pub ones-mask : (k : ℕ) (cs : List ℕ) → ones (mask k cs) ≡ count k cs
+unfolding ones
+ones-mask k [] = refl
+ones-mask k (c ∷ cs) =
+    ones-step (bit (eqb c k) + mask k cs * 2)
+    ∙ rw (odd-bit (eqb c k) (mask k cs), half-bit (eqb c k) (mask k cs), ones-mask k cs) (one (eqb c k) (count k cs))
+  where
+    one : (t : Bool) (n : ℕ) → bit t + n ≡ cond t (suc n) n
+    one true n = omega arith
+    one false n = omega arith

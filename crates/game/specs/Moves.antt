@@ -191,10 +191,10 @@ module _ (p : Position) (m : ℕ) (ws : List ℕ) (base : ℕ) (h : Holds p ws b
       ∙ mask-put (λ x. eqb x (mark t)) (board (p .cells) (boardOf m)) (cellOf m) (mark (p .side)) inside (rw was-empty (ne-eqb 0 (mark t) (zero-apart t)))
       ∙ ap (λ n. n + bit (eqb (mark (p .side)) (mark t)) * 2 ^ cellOf m) (sym (h .masks t (boardOf m) (legal p m e .board-in)))
 
-  mine-after : mask (mark (p .side)) (movedBoard p m) ≡ getD ws (base + (sideBit (p .side) * 9 + boardOf m)) 0 + 2 ^ cellOf m
+  pub mine-after : mask (mark (p .side)) (movedBoard p m) ≡ getD ws (base + (sideBit (p .side) * 9 + boardOf m)) 0 + 2 ^ cellOf m
   mine-after = cells-after (p .side) ∙ rw (eq-eqb (mark (p .side)) (mark (p .side)) refl) (omega arith)
 
-  theirs-after : mask (mark (other (p .side))) (movedBoard p m) ≡ getD ws (base + (sideBit (other (p .side)) * 9 + boardOf m)) 0
+  pub theirs-after : mask (mark (other (p .side))) (movedBoard p m) ≡ getD ws (base + (sideBit (other (p .side)) * 9 + boardOf m)) 0
   theirs-after = cells-after (other (p .side)) ∙ rw (ne-eqb (mark (p .side)) (mark (other (p .side))) (mark-apart (p .side))) (omega arith)
 
   codes-after : all (λ c. ltb c 3) (movedBoard p m) ≡ true
@@ -204,10 +204,10 @@ module _ (p : Position) (m : ℕ) (ws : List ℕ) (base : ℕ) (h : Holds p ws b
   long-after = length-board (play p m .cells) (boardOf m) (length-played p m ∙ h .whole) (legal p m e .board-in)
 
   -- its line and whether it is full, read off the masks
-  wins : Bool
+  unfoldable pub wins : Bool
   wins = lineIn (mask (mark (p .side)) (movedBoard p m))
 
-  fills : Bool
+  unfoldable pub fills : Bool
   fills = eqb (mask (mark (p .side)) (movedBoard p m) + mask (mark (other (p .side))) (movedBoard p m)) 511
 
   state-after : state (movedBoard p m) ≡ cond wins (mark (p .side)) (cond (not fills) 0 3)
@@ -231,13 +231,13 @@ module _ (p : Position) (m : ℕ) (ws : List ℕ) (base : ℕ) (h : Holds p ws b
       ∙ ap (λ v. maskOf f (boardStates (p .cells)) + bit (f v) * 2 ^ boardOf m) state-after
 
   -- boards won by each side, drawn boards, done boards
-  won-after : mask (mark (p .side)) (boardStates (play p m .cells)) ≡ mask (mark (p .side)) (boardStates (p .cells)) + cond wins (2 ^ boardOf m) 0
+  pub won-after : mask (mark (p .side)) (boardStates (play p m .cells)) ≡ mask (mark (p .side)) (boardStates (p .cells)) + cond wins (2 ^ boardOf m) 0
   won-after = boards-after (λ x. eqb x (mark (p .side))) (ne-eqb 0 (mark (p .side)) (zero-apart (p .side))) ∙ ap (λ n. mask (mark (p .side)) (boardStates (p .cells)) + n) (mover-won (p .side) (2 ^ boardOf m) wins fills)
 
   drawn-after : mask 3 (boardStates (play p m .cells)) ≡ mask 3 (boardStates (p .cells)) + cond wins 0 (cond fills (2 ^ boardOf m) 0)
   drawn-after = boards-after (λ x. eqb x 3) refl ∙ ap (λ n. mask 3 (boardStates (p .cells)) + n) (mover-drawn (p .side) (2 ^ boardOf m) wins fills)
 
-  done-after : maskOf nonzero (boardStates (play p m .cells))
+  pub done-after : maskOf nonzero (boardStates (play p m .cells))
       ≡ maskOf nonzero (boardStates (p .cells)) + (cond wins (2 ^ boardOf m) 0 + cond wins 0 (cond fills (2 ^ boardOf m) 0))
   done-after = boards-after nonzero refl ∙ ap (λ n. maskOf nonzero (boardStates (p .cells)) + n) (mover-done (p .side) (2 ^ boardOf m) wins fills)
 

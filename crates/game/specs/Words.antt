@@ -70,7 +70,7 @@ states-small cs =
     all-answers (λ c. ltb c 4) (λ b. state (board cs b))
     (λ b. state-small (hasLine 1 (board cs b)) (hasLine 2 (board cs b)) (any (eqb 0) (board cs b))) 0 9
 
-turned : (b : Bool) → _≡_ {A = ℕ} (cond b 0 3) (cond (not b) 3 0)
+pub turned : (b : Bool) → _≡_ {A = ℕ} (cond b 0 3) (cond (not b) 3 0)
 turned true = refl
 turned false = refl
 

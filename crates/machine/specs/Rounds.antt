@@ -102,7 +102,7 @@ module _ (G : Game) (L : Lawful G) (p : G .Pos) where
 
 module _ (G : Game) (L : Lawful G) (r : G .Pos) (s : State (G .Pos)) (h : AtUnsolved G r s) (e : s .node .expanded ≡ false) where
   -- Step 4 leads to step 5
-  expand-ok : Climbing G r (expand G s .above) (expand G s .node) (expand G s .below)
+  pub expand-ok : Climbing G r (expand G s .above) (expand G s .node) (expand G s .below)
   unfolding expand opened
   expand-ok =
       let o = leaf-of G (s .node) (s .below) (h .ok) (h .phi-pos) (h .delta-pos) e in
@@ -123,7 +123,7 @@ module _ (G : Game) (L : Lawful G) (r : G .Pos) (s : State (G .Pos)) (h : AtUnso
       there m (inl i) = absurd (List·Memᴰ·not-nil i)
       there m (inr i) = i
 
-  expand-counts : (N : ℕ) → CountsFit N (s .counts) (sizesOf G s) → CountsFit N (expand G s .counts) (sizesOf G (expand G s))
+  pub expand-counts : (N : ℕ) → CountsFit N (s .counts) (sizesOf G s) → CountsFit N (expand G s .counts) (sizesOf G (expand G s))
   unfolding expand opened sizes size roomAt tally
   expand-counts N b =
       let o = leaf-of G (s .node) (s .below) (h .ok) (h .phi-pos) (h .delta-pos) e in

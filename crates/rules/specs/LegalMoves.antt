@@ -167,7 +167,7 @@ module _ (p : Position) (g : gameState p ≡ 0) where
         })),
       )
 
-  unfinished-move : (p .target < 9) ⊎ (p .target ≡ 15) → (p .target < 9 → state (board (p .cells) (p .target)) ≡ 0) → (m : ℕ) × List·Memᴰ m (legalMoves p)
+  pub unfinished-move : (p .target < 9) ⊎ (p .target ≡ 15) → (p .target < 9 → state (board (p .cells) (p .target)) ≡ 0) → (m : ℕ) × List·Memᴰ m (legalMoves p)
   unfolding gameState
   unfinished-move (inl l) e = move-there (p .target) l (e l) (rw (eq-eqb (p .target) (p .target) refl) (or-true (eqb (p .target) 15)))
   unfinished-move (inr q) e =

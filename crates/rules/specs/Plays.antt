@@ -68,7 +68,7 @@ module _ (cs : List ℕ) (c : ℕ) where
   next-range h true = inl h
   next-range h false = inr refl
 
-  next-open : (t : Bool) → eqb (state (board cs c)) 0 ≡ t → cond t c 15 < 9 → state (board cs (cond t c 15)) ≡ 0
+  pub next-open : (t : Bool) → eqb (state (board cs c)) 0 ≡ t → cond t c 15 < 9 → state (board cs (cond t c 15)) ≡ 0
   next-open true e l = eqb-true (state (board cs c)) 0 e
   next-open false e l = absurd (omega arith)
 
