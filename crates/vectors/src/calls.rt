@@ -1,0 +1,49 @@
+// The calls, a function for each: it reads the rest of its line, from the place after the record on, and runs the call.
+ghost use Rattle.vectors.specs.Words.{Inside};
+use crate::answers;
+use crate::words;
+use answers::Outcome;
+use words::Count;
+use words::Word;
+
+// `moves RECORD [OUTPUT-LENGTH] => COUNT MOVES`
+fn moves(s: &[u8], at: usize, record: &[u8]) -> Outcome {
+    let mut out = answers::untouched();
+    let Count::Bytes(length, place) = answers::output_length(s, at, 81, &out) else {
+        return Outcome::Unreadable;
+    };
+    let got = ultimattt::uttt_legal_moves(record, &mut out[..length]);
+    answers::settle(s, place, true, got.code as u64, got.count, &out)
+}
+
+// The rest of a line of replay, after the moves.
+fn replay_of(s: &[u8], at: usize, record: &[u8], moves: &[u8]) -> Outcome {
+    let mut out = answers::untouched();
+    let Count::Bytes(length, place) = answers::output_length(s, at, 21, &out) else {
+        return Outcome::Unreadable;
+    };
+    let got = ultimattt::uttt_replay(record, moves, &mut out[..length]);
+    answers::settle(s, place, false, got.code as u64, got.index, &out)
+}
+
+// `replay RECORD MOVES [OUTPUT-LENGTH] => RECORD`
+fn replay(s: &[u8], at: usize, record: &[u8]) -> Outcome {
+    let mut moves = [0u8; 512];
+    let Count::Bytes(n, place) = words::read_bytes(s, at, &mut moves) else {
+        return Outcome::Unreadable;
+    };
+    replay_of(s, place, record, &moves[..n])
+}
+
+// Runs the call of that name.
+pub fn run(s: &[u8], name: Word, at: usize, record: &[u8]) -> Outcome
+    requires { ⌜ Inside name (now s) ⌝ }
+{
+    if words::is_word(s, name, b"moves") {
+        return moves(s, at, record);
+    }
+    if words::is_word(s, name, b"replay") {
+        return replay(s, at, record);
+    }
+    Outcome::Unreadable
+}

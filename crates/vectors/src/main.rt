@@ -1,0 +1,66 @@
+// Runs a stored list of the original's answers over the library. Standard input has lines `CALL => ANSWER`.
+// Each line whose answer differs or that can't be read is named; in the end come the number of lines and how many agreed.
+mod answers;
+mod calls;
+mod words;
+
+ghost use Prim.Native.Nat.{_≤_};
+use answers::Outcome;
+use libc::STDIN_FILENO;
+use libc::STDOUT_FILENO;
+use words::Count;
+
+// Runs a line. It starts with the call's name and a record.
+fn run_line(s: &[u8]) -> Outcome {
+    let name = words::first_word(s);
+    let mut record = [0u8; 64];
+    let Count::Bytes(n, place) = words::read_bytes(s, name.end, &mut record) else {
+        return Outcome::Unreadable;
+    };
+    calls::run(s, name, place, &record[..n])
+}
+
+// Names a line that did not agree; gives 1 for one that did.
+fn report(number: u64, outcome: Outcome) -> u64
+    ensures { λ r. ⌜ r ≤ 1 ⌝ }
+{
+    if let Outcome::Agreed = outcome {
+        return 1;
+    }
+    io::write_all(STDOUT_FILENO, b"line ");
+    io::print_decimal(STDOUT_FILENO, number);
+    if let Outcome::Differs = outcome {
+        io::write_all(STDOUT_FILENO, b" differs\n");
+    } else {
+        io::write_all(STDOUT_FILENO, b" can't be read\n");
+    }
+    0
+}
+
+// Runs every line of the list.
+fn run_list(text: &[u8]) {
+    let mut at: usize = 0;
+    let mut lines: u64 = 0;
+    let mut agreed: u64 = 0;
+    while at < text.len() {
+        let end = words::find(text, at, b'\n');
+        lines += 1;
+        agreed += report(lines, run_line(&text[at..end]));
+        at = end + 1;
+    }
+    io::print_decimal(STDOUT_FILENO, lines);
+    io::write_all(STDOUT_FILENO, b" lines, ");
+    io::print_decimal(STDOUT_FILENO, agreed);
+    io::write_all(STDOUT_FILENO, b" agreed\n");
+}
+
+// A list that fills the buffer may go on after it: none of it is run.
+fn main() {
+    let mut buffer = [0u8; 524288];
+    let n = io::read_full(STDIN_FILENO, &mut buffer);
+    if n == buffer.len() {
+        io::write_all(STDOUT_FILENO, b"the list has more than 524287 bytes\n");
+        return;
+    }
+    run_list(&buffer[..n]);
+}
