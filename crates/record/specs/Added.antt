@@ -15,12 +15,12 @@ use Rattle.rules.specs.Rules.Player.{X, O}
 use Rattle.rules.specs.Record.{sideBit, bothLines}
 use Rattle.rules.specs.Answers.{answers-next}
 use Rattle.rules.specs.Boards.{length-board}
-use Rattle.game.specs.Masks.{mask}
+use Rattle.game.specs.Masks.{mask, ones-mask}
 use Rattle.game.specs.Lines.{lineIn}
 use Rattle.record.specs.declared.Codes.{Codes}
 use Rattle.record.specs.declared.Boards.{Boards}
 use Rattle.record.specs.Reading.{Masks, Putting, Whole, Reads, Adding}
-use Rattle.record.specs.Marks.{no-codes, any-more, count-append, ones-mask, putting, put-next, x-line, o-line}
+use Rattle.record.specs.Marks.{no-codes, any-more, count-append, putting, put-next, x-line, o-line}
 
 pub count-le : (k : ℕ) (cs : List ℕ) → count k cs ≤ length cs
 count-le k [] = omega arith

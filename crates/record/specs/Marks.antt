@@ -2,11 +2,10 @@
 use mathlib.Core.Path.{_≡_, refl, ap, sym, _∙_}
 use mathlib.Core.Bool.{Bool, true, false, cond, not, _&&_, _||_, and-true, and-assoc, or-false, or-assoc}
 use mathlib.Core.List.{List, [], _∷_, _++_}
-use Prim.Native.Nat.{ℕ, suc, _+_, _*_, _/_, _%_, _^_, _<_, _≤_}
+use Prim.Native.Nat.{ℕ, suc, _+_, _*_, _^_, _<_, _≤_}
 use native.Mathlib.Nat.{pow-succ', pow-zero}
 use native.Mathlib.Omega.{arith}
 use borrow.Author.Tests.{lt-ltb}
-use lib.Count.{ones, ones-step}
 use lib.Dec.{eqb, ltb}
 use lib.ListN.{length}
 use lib.Pow.{pow-mono}
@@ -41,21 +40,6 @@ count-append k (c ∷ l) r = go (eqb c k) (count k (l ++ r)) (count k l) (count-
     go : (t : Bool) (n a : ℕ) → n ≡ a + count k r → cond t (suc n) n ≡ cond t (suc a) a + count k r
     go true n a e = omega arith
     go false n a e = e
-
-pub ones-mask : (k : ℕ) (cs : List ℕ) → ones (mask k cs) ≡ count k cs
-unfolding ones
-ones-mask k [] = refl
-ones-mask k (c ∷ cs) = go (eqb c k) (mask k cs) (count k cs) (ones-mask k cs)
-  where
-    go : (t : Bool) (m n : ℕ) → ones m ≡ n → ones (bit t + m * 2) ≡ cond t (suc n) n
-    go true m n e =
-        let h : (1 + m * 2) / 2 ≡ m = omega arith in
-        let l : (1 + m * 2) % 2 ≡ 1 = omega arith in
-        ones-step (1 + m * 2) ∙ rw (h, l, e) (omega arith)
-    go false m n e =
-        let h : (0 + m * 2) / 2 ≡ m = omega arith in
-        let l : (0 + m * 2) % 2 ≡ 0 = omega arith in
-        ones-step (0 + m * 2) ∙ rw (h, l, e) (omega arith)
 
 -- ---- the masks of codes
 

@@ -23,15 +23,6 @@ abbrev pub Ascending : List ℕ → Type 0
 Ascending [] = Unit {0}
 Ascending (x ∷ xs) = ((y : ℕ) → List·Memᴰ y xs → x < y) × Ascending xs
 
--- None stands twice.
-abbrev pub Distinct : {A : Type 0} → List A → Type 0
-Distinct [] = Unit {0}
-Distinct (x ∷ xs) = (List·Memᴰ x xs → ⊥) × Distinct xs
-
-pub ascending-distinct : (l : List ℕ) → Ascending l → Distinct l
-ascending-distinct [] a = tt
-ascending-distinct (x ∷ l) a = (λ i. let h : x < x = a .0 x i in omega arith, ascending-distinct l (a .1))
-
 -- what a list keeps
 module _ (f : ℕ → Bool) where
   from-keep : (l : List ℕ) (m : ℕ) → List·Memᴰ m (keep f l) → List·Memᴰ m l × (f m ≡ true)
@@ -133,9 +124,6 @@ ascending p = go (eqb (state (boardStates (p .cells))) 0)
     go : (t : Bool) → Ascending (cond t (keep (playable p (boardStates (p .cells))) everyMove) [])
     go true = ascending-keep (playable p (boardStates (p .cells))) everyMove (ascending-answers nth (λ j k h. omega arith) 0 81)
     go false = tt
-
-pub distinct : (p : Position) → Distinct (legalMoves p)
-distinct p = ascending-distinct (legalMoves p) (ascending p)
 
 pub finished-none : (p : Position) → (gameState p ≡ 0 → ⊥) → legalMoves p ≡ []
 unfolding legalMoves gameState

@@ -40,7 +40,8 @@ pub side-lt : (s : Player) → sideBit s < 2
 side-lt X = omega arith
 side-lt O = omega arith
 
-side-back : (s : Player) → playerOf (sideBit s) ≡ s
+-- a side's number gives the side back
+pub side-back : (s : Player) → playerOf (sideBit s) ≡ s
 side-back X = refl
 side-back O = refl
 

@@ -1,0 +1,4 @@
+pub mod Asks
+pub mod Storing
+pub mod Turns
+pub mod Witness

@@ -1,0 +1,206 @@
+-- The turns of a climb: how it starts, what a turn may do, and where it ends. Rests on Storing and the plain machine's Climb.
+use mathlib.Core.Path.{_≡_, refl, ap, sym, _∙_, subst}
+use mathlib.Core.List.{List, [], _∷_}
+use mathlib.Core.Bool.{Bool, true, false, cond, _&&_}
+use Prim.Native.Nat.{ℕ, zero, suc, _-_, _≤_, _<_, min}
+use native.Mathlib.Omega.{arith}
+use lib.Dec.{eqb}
+use lib.ListN.{length, getD}
+use Rattle.rules.specs.Rules.{Player, Position}
+use Rattle.machine.specs.Game.{Game}
+use Rattle.machine.specs.Tree.{Node, u32-max, Children, child, leastDelta, sumPhi, append, proofOf, disproofOf}
+use Rattle.machine.specs.Machine.{Counts, Ancestor, State, state, renumber, unchanged, store, climb}
+use Rattle.machine.specs.Numbers.{unsolved, tally}
+use Rattle.machine.specs.Place.{innerAt, inner-inner, sizes}
+use Rattle.machine.specs.Climb.{climb-stay, climb-root, climb-next}
+use Rattle.plain.specs.Plain.{game}
+use Rattle.words.specs.Packed.{view}
+use Rattle.words.specs.Words.{PHI, DELTA, FIRST, word, Slot, Beyond}
+use Rattle.words.specs.Pool.{Holds, holding-few}
+use Rattle.words.specs.Steps.{line-root}
+use Rattle.words.specs.States.{holds-up}
+use Rattle.prover.specs.declared.Prover.{Prover}
+use Rattle.prover.specs.Stands.{Positions, Stands}
+use Rattle.climb.specs.declared.Ascent.{Ascent}
+use Rattle.climb.specs.Asks.{zeros, Recomputable, Recomputes, climbed, Climbable, Going, Ascending, Stored, Way, Raisable, Raised, Raises, Ascended}
+
+zeros-le : (n : ℕ) → zeros n ≤ 1
+zeros-le zero = omega arith
+zeros-le (suc n) = go (eqb (suc n) 0)
+  where
+    go : (b : Bool) → cond {A = ℕ} b 1 0 ≤ 1
+    go true = omega arith
+    go false = omega arith
+
+-- The place of the current node is how many nodes are above it
+pub depth-is : {rule : ℕ} {side : Player} {w path ps : List ℕ} {x : Prover} {s : State Position} → Stands rule side w path ps x s → length (s .above) ≡ x .depth
+depth-is {rule} {side} {w} {path} {ps} {x} {s} h = line-root (view (game rule side)) w path (x .depth) (s .above) (h .tree .tree .above)
+
+-- One node up
+shallower : Prover → Prover
+shallower x = record { depth = x .depth - 1; pool = x .pool; proved = x .proved; disproved = x .disproved; expanded = x .expanded }
+
+-- A changed root is where the climb ends
+climb-top : (G : Game) (c : Counts) (n : Node (G .Pos)) (ks : Children (G .Pos)) (up : List (Ancestor (G .Pos))) → length up ≡ 0 → unchanged G n ks ≡ false → climb G up c n ks ≡ store G c up n ks
+climb-top G c n ks [] z e = climb-root G c n ks e
+climb-top G c n ks (a ∷ up) z e = absurd (omega arith)
+
+-- The start: the current node and those above were expanded and are not counted yet
+pub starts : {w path : List ℕ} {x : Prover} {phi delta : ℕ} (g : Climbable w path x phi delta) → Going (g .rule) (g .side) w path (g .ps) x phi delta (climbed (game (g .rule) (g .side)) (g .at))
+unfolding sizes
+starts g =
+    let n = g .at .node in
+    let inner = inner-inner n (tally innerAt (g .at .below)) (unsolved n (g .climbing .phi-pos) (g .climbing .delta-pos)) (g .climbing .opened) in
+    record {
+      at = g .at;
+      stands = g .stands;
+      phi-is = g .phi-is;
+      delta-is = g .delta-is;
+      proved-room = omega (arith, g .counts-fit .solved-once);
+      disproved-room = omega (arith, g .counts-fit .solved-once);
+      leads = refl;
+    }
+
+-- The node above, as ascend needs it
+module _ (w path : List ℕ) (x : Prover) (g : Raisable w path x) where
+  all : Children Position
+  all = append (g .up .before) (child (g .node) (g .below) (g .up .after))
+
+  pub raised-place : 0 < x .depth
+  raised-place = omega (arith, depth-is (g .stands))
+
+  raised : Stands (g .rule) (g .side) w path (g .ps) (shallower x) (state (g .counts) (g .above) (g .up .node) all)
+  unfolding shallower all
+  raised = go (x .depth) refl (g .stands .tree) (g .stands .positions)
+    where
+      go : (d : ℕ) → x .depth ≡ d → Holds (view (game (g .rule) (g .side))) w path d (x .pool .free .0) (x .pool .used) (x .pool .allocated) (x .pool .freed) (state (g .counts) (g .up ∷ g .above) (g .node) (g .below))
+          → Positions (g .ps) d (g .up ∷ g .above) (g .node) → Stands (g .rule) (g .side) w path (g .ps) (shallower x) (state (g .counts) (g .above) (g .up .node) all)
+      go zero e t p = absurd p
+      go (suc d) e t p =
+          let q : d ≡ x .depth - 1 = omega arith in
+          record {
+            tree = rw q at (holds-up (view (game (g .rule) (g .side))) w path (x .pool .free .0) (x .pool .used) (x .pool .allocated) (x .pool .freed) (g .counts) d (g .up) (g .above) (g .node) (g .below) t);
+            positions = rw q at (p .1);
+            proved-is = g .stands .proved-is;
+            disproved-is = g .stands .disproved-is;
+            expanded-is = g .stands .expanded-is;
+            path-long = g .stands .path-long;
+            positions-long = g .stands .positions-long;
+          }
+
+  pub raised-slot : Slot w (getD path (x .depth - 1) 0)
+  unfolding shallower
+  raised-slot = raised .tree .tree .node .slot
+
+  walked : Recomputable w (word w (getD path (x .depth - 1) 0) FIRST)
+  unfolding shallower
+  walked =
+      let t = raised .tree .tree in
+      record { view = view (game (g .rule) (g .side)); walk = record { list = all; part = t .below; few = omega (arith, holding-few (view (game (g .rule) (g .side))) w path _ _ _ _ _ _ _ _ t) } }
+
+  pub raised-list : (first : ℕ) → first ≡ word w (getD path (x .depth - 1) 0) FIRST → Recomputable w first
+  raised-list first e = rw e walked
+
+  pub raises : (first phi delta : ℕ) → first ≡ word w (getD path (x .depth - 1) 0) FIRST → Recomputes w first phi delta
+      → Raised w path x g (record { going = true; phi = phi; delta = delta; prover = record { depth = x .depth - 1; pool = x .pool; proved = x .proved; disproved = x .disproved; expanded = x .expanded } })
+  unfolding shallower all walked
+  raises first phi delta e r =
+      let n = subst (λ (y : ℕ). Recomputes w y phi delta) e r walked in
+      record { going-is = refl; stands = raised; phi-is = n .phi-is; delta-is = n .delta-is }
+
+-- One turn
+module _ (w path : List ℕ) (x : Prover) (phi delta : ℕ) (g : Ascending w path x phi delta) where
+  abbrev G : Game
+  G = game (g .rule) (g .side)
+
+  abbrev s : State Position
+  s = g .going .at
+
+  ended : (v : List ℕ) → Beyond w v → (r : Prover) → Stands (g .rule) (g .side) v path (g .ps) r (g .whole) → (k : Ascent) → (k .going ≡ false) × (k .prover ≡ r) → Ascended w path x phi delta g v k
+  ended v past r h k e = record {
+    way = subst (λ (b : Bool). Way b (g .rule) (g .side) v path (g .ps) (k .prover) (k .phi) (k .delta) (g .whole)) (sym (e .0)) (subst (λ (y : Prover). Stands (g .rule) (g .side) v path (g .ps) y (g .whole)) (sym (e .1)) h);
+    less = omega (arith, ap (λ (b : Bool). cond b (suc (k .prover .depth)) 0) (e .0));
+    past = past;
+  }
+
+  module _ (same : Bool) (same-is : same ≡ (eqb (word w (getD path (x .depth) 0) PHI) phi && eqb (word w (getD path (x .depth) 0) DELTA) delta)) where
+    unchanged-is : unchanged G (s .node) (s .below) ≡ same
+    unfolding unchanged renumber
+    unchanged-is =
+        let n = g .going .stands .tree .tree .node in
+        ap (λ (y : ℕ). eqb y (leastDelta (s .below)) && eqb (s .node .delta) (min (sumPhi (s .below)) u32-max)) (sym (n .phi-is))
+        ∙ ap (λ (y : ℕ). eqb (word w (getD path (x .depth) 0) PHI) y && eqb (s .node .delta) (min (sumPhi (s .below)) u32-max)) (sym (g .going .phi-is))
+        ∙ ap (λ (y : ℕ). eqb (word w (getD path (x .depth) 0) PHI) phi && eqb y (min (sumPhi (s .below)) u32-max)) (sym (n .delta-is))
+        ∙ ap (λ (y : ℕ). eqb (word w (getD path (x .depth) 0) PHI) phi && eqb (word w (getD path (x .depth) 0) DELTA) y) (sym (g .going .delta-is))
+        ∙ sym same-is
+
+    -- Unchanged: it is where the climb ends
+    pub turn-same : same ≡ true → (k : Ascent) → (k .going ≡ false) × (k .prover ≡ x) → Ascended w path x phi delta g w k
+    turn-same t = ended w (λ j l. refl) x (subst (Stands (g .rule) (g .side) w path (g .ps) x) (sym (climb-stay G (s .counts) (s .node) (s .below) (s .above) (unchanged-is ∙ t)) ∙ g .going .leads) (g .going .stands))
+
+    module _ (changed : same ≡ false) (v : List ℕ) (r : Prover) (q : Stored w path x phi delta g v r) where
+      -- Changed, at the root
+      pub turn-root : r .depth ≡ 0 → (k : Ascent) → (k .going ≡ false) × (k .prover ≡ r) → Ascended w path x phi delta g v k
+      unfolding store
+      turn-root z = ended v (q .past) r (subst (Stands (g .rule) (g .side) v path (g .ps) r)
+          (sym (climb-top G (s .counts) (s .node) (s .below) (s .above) (depth-is (q .stands) ∙ z) (unchanged-is ∙ changed)) ∙ g .going .leads) (q .stands))
+
+      -- Changed, below the root
+      seen : (a : Ancestor Position) (up : List (Ancestor Position)) → s .above ≡ a ∷ up → Raisable v path r
+      unfolding store
+      seen a up e =
+          let t = store G (s .counts) (s .above) (s .node) (s .below) in
+          record {
+            rule = g .rule;
+            side = g .side;
+            ps = g .ps;
+            counts = t .counts;
+            up = a;
+            above = up;
+            node = t .node;
+            below = t .below;
+            stands = subst (λ (l : List (Ancestor Position)). Stands (g .rule) (g .side) v path (g .ps) r (state (t .counts) l (t .node) (t .below))) e (q .stands);
+          }
+
+      pub turn-asks : (r .depth ≡ 0 → ⊥) → Raisable v path r
+      unfolding store
+      turn-asks z = go (s .above) refl
+        where
+          go : (l : List (Ancestor Position)) → s .above ≡ l → Raisable v path r
+          go [] e = absurd (z (sym (depth-is (q .stands)) ∙ ap length e))
+          go (a ∷ up) e = seen a up e
+
+      pub turn-up : (r .depth ≡ 0 → ⊥) → (k : Ascent) → Raises v path r k → Ascended w path x phi delta g v k
+      unfolding store seen
+      turn-up z k f = go (s .above) refl
+        where
+          go : (l : List (Ancestor Position)) → s .above ≡ l → Ascended w path x phi delta g v k
+          go [] e = absurd (z (sym (depth-is (q .stands)) ∙ ap length e))
+          go (a ∷ up) e =
+              let t = store G (s .counts) (s .above) (s .node) (s .below) in
+              let d = f (seen a up e) in
+              let n = renumber G (s .node) (s .below) in
+              let long = ap length e in
+              let there = append (a .before) (child (t .node) (t .below) (a .after)) in
+              let on : Going (g .rule) (g .side) v path (g .ps) (k .prover) (k .phi) (k .delta) (g .whole) = record {
+                at = state (t .counts) up (a .node) there;
+                stands = d .stands;
+                phi-is = d .phi-is;
+                delta-is = d .delta-is;
+                proved-room = omega (arith, g .going .proved-room, zeros-le (proofOf G n));
+                disproved-room = omega (arith, g .going .disproved-room, zeros-le (disproofOf G n));
+                leads = sym (climb-next G (s .counts) (s .node) (s .below) a up (unchanged-is ∙ changed)) ∙ ap (λ (l : List (Ancestor Position)). climb G l (s .counts) (s .node) (s .below)) (sym e) ∙ g .going .leads;
+              } in
+              record {
+                way = subst (λ (b : Bool). Way b (g .rule) (g .side) v path (g .ps) (k .prover) (k .phi) (k .delta) (g .whole)) (sym (d .going-is)) on;
+                less = omega (arith, ap (λ (b : Bool). cond b (suc (k .prover .depth)) 0) (d .going-is), depth-is (d .stands), depth-is (g .going .stands));
+                past = q .past;
+              }
+
+-- While it goes on, and at the end
+module _ (rule : ℕ) (side : Player) (w path ps : List ℕ) (x : Prover) (phi delta : ℕ) (whole : State Position) (going : Bool) (h : Way going rule side w path ps x phi delta whole) where
+  unfoldable pub goes-on : going ≡ true → Ascending w path x phi delta
+  goes-on e = record { rule = rule; side = side; ps = ps; whole = whole; going = subst (λ (b : Bool). Way b rule side w path ps x phi delta whole) e h }
+
+  pub ends : going ≡ false → Stands rule side w path ps x whole
+  ends e = subst (λ (b : Bool). Way b rule side w path ps x phi delta whole) e h
