@@ -1,5 +1,6 @@
 -- What each call answers and what it leaves in the lent bytes, as one function of what comes in. The checks come in the order of the table under
--- 'Turned back', and a refusal leaves every byte as it was. Rests on the rules and their record.
+-- 'Turned back', and a refusal leaves every byte as it was. Rests on the rules, their record, the value
+-- of a record and check 16's count.
 use mathlib.Core.Bool.{cond, not}
 use mathlib.Core.List.{List, _++_}
 use Prim.Native.Nat.{ℕ}
@@ -8,6 +9,8 @@ use lib.ListN.{length, drop}
 use Rattle.rules.specs.Rules.{Replayed, legalMoves, replay}
 use Rattle.rules.specs.Rules.Replayed.{Reached, BadMove}
 use Rattle.rules.specs.Record.{positionOf, recordOf, refusal}
+use Rattle.plain.specs.Plain.{recordValue}
+use Rattle.referee.specs.OpenCells.{openCells}
 
 -- Replay: 0 or the number of the refusal; the index of the bad move, 0 elsewhere; the output afterwards.
 pub record ReplayOutcome : Type 0 where
@@ -46,3 +49,19 @@ movesCall bytes out =
     cond (not (eqb (refusal bytes) 0)) (movesOutcome (refusal bytes) 0 out)
     (cond (ltb (length out) 81) (movesOutcome 7 0 out)
     (listed (legalMoves (positionOf bytes)) out))
+
+-- Referee: 0 or the number of the refusal; the value for the side to move, 1 True, 2 False, and 0 with a refusal. Nothing is lent to be written.
+pub record RefereeOutcome : Type 0 where
+  pub number : ℕ
+  pub value : ℕ
+
+abbrev pub refereeOutcome : ℕ → ℕ → RefereeOutcome
+refereeOutcome n v = record { number = n; value = v }
+
+-- Checks 10 and 16 after those of the record: a rule over 2, over nine empty cells in boards in play.
+unfoldable pub refereeCall : (bytes : List ℕ) (rule : ℕ) → RefereeOutcome
+refereeCall bytes rule =
+    cond (not (eqb (refusal bytes) 0)) (refereeOutcome (refusal bytes) 0)
+    (cond (ltb 2 rule) (refereeOutcome 10 0)
+    (cond (ltb 9 (openCells (positionOf bytes))) (refereeOutcome 16 0)
+    (refereeOutcome 0 (cond (recordValue rule bytes) 1 2))))

@@ -1,19 +1,16 @@
--- The cases of document 01 that are proved from the definitions, in one lemma, with ours. Rests on Calls.
+-- The cases of document 01 that are proved from the definitions, in one lemma, with ours. Rests on Calls, and on plain's
+-- Cases for the records E, W and D.
 use mathlib.Core.Path.{_≡_, refl}
 use mathlib.Core.List.{List, [], _∷_, _++_}
-use Prim.Native.Nat.{ℕ, _-_, _/_, _%_, _^_}
+use Prim.Native.Nat.{ℕ}
 use lib.ListN.{length, getD, replicate}
-use Rattle.rules.specs.Rules.{answers, hasLine, state, board, boardStates, gameState, moveError, play, legalMoves, replay}
+use Rattle.rules.specs.Rules.{hasLine, state, board, boardStates, gameState, moveError, play, legalMoves, replay, drawn, finalValue}
 use Rattle.rules.specs.Record.{bitAt, positionOf, positionRefusal, refusal, recordBit, recordOf}
-use Rattle.ultimattt.specs.Calls.{replayOutcome, movesOutcome, afterMoves, replayCall, movesCall}
-
--- 21 bytes as one number.
-abbrev pub bytes : ℕ → List ℕ
-bytes n = answers (λ k. n / 256 ^ (20 - k) % 256) 0 21
-
--- E: the empty game.
-abbrev pub E : List ℕ
-E = 120 ∷ replicate 20 0
+use Rattle.machine.specs.Game.{backward, valueFrom, value}
+use Rattle.plain.specs.Plain.{valueOf}
+use Rattle.plain.specs.Cases.{record21, E, W, D}
+use Rattle.referee.specs.OpenCells.{openCells}
+use Rattle.ultimattt.specs.Calls.{replayOutcome, movesOutcome, refereeOutcome, afterMoves, replayCall, movesCall, refereeCall}
 
 -- An output of 21 bytes, and one of 81.
 abbrev pub out21 : List ℕ
@@ -37,15 +34,23 @@ pub record Cases : Type 0 where
   pub E-7A : refusal (0x7A ∷ replicate 20 0) ≡ 3
   pub E-FA : refusal (0xFA ∷ replicate 20 0) ≡ 0
   -- D with target 0 is refused by 6
-  pub D-0 : refusal (bytes 0x02B400AC0054001500054000A8002A000A80054000) ≡ 6
+  pub D-0 : refusal (record21 0x02B400AC0054001500054000A8002A000A80054000) ≡ 6
   -- ours: W with 22, the move that ends the game: the reply's target is set by the same rule, here the board of that move, done, so free choice
-  pub W-22 : replayCall (bytes 0x12A000A80028051500054000000000000000000000) (0x22 ∷ []) out21 ≡ replayOutcome 0 0 (bytes 0xFAA000A8002A051500054000000000000000000000)
+  pub W-22 : replayCall W (0x22 ∷ []) out21 ≡ replayOutcome 0 0 (record21 0xFAA000A8002A051500054000000000000000000000)
   -- ours: a replay that begins with O to move, on E with 44
-  pub O-first : replayCall (bytes 0xA00000000000000000000200000000000000000000) (0x40 ∷ 0x04 ∷ []) out21
-      ≡ replayOutcome 0 0 (bytes 0xA00200000000000000040200000000000000000000)
+  pub O-first : replayCall (record21 0xA00000000000000000000200000000000000000000) (0x40 ∷ 0x04 ∷ []) out21
+      ≡ replayOutcome 0 0 (record21 0xA00200000000000000040200000000000000000000)
+  -- ours: the referee refuses by 1, 10 and 16; D's value under each rule
+  pub short : refereeCall [] 0 ≡ refereeOutcome 1 0
+  pub E-rule-3 : refereeCall E 3 ≡ refereeOutcome 10 0
+  pub E-large : refereeCall E 2 ≡ refereeOutcome 16 0
+  pub W-large : refereeCall W 0 ≡ refereeOutcome 16 0
+  pub D-rule-0 : refereeCall D 0 ≡ refereeOutcome 0 2
+  pub D-rule-1 : refereeCall D 1 ≡ refereeOutcome 0 2
+  pub D-rule-2 : refereeCall D 2 ≡ refereeOutcome 0 1
 
 pub cases : Cases
-unfolding hasLine state board boardStates gameState moveError play legalMoves replay bitAt positionOf positionRefusal refusal recordBit recordOf afterMoves replayCall movesCall
+unfolding drawn finalValue hasLine state board boardStates gameState moveError play legalMoves replay bitAt positionOf positionRefusal refusal recordBit recordOf afterMoves replayCall movesCall openCells refereeCall backward valueFrom value valueOf
 cases = record {
   E-count = refl;
   E-first = refl;
@@ -59,4 +64,11 @@ cases = record {
   D-0 = refl;
   W-22 = refl;
   O-first = refl;
+  short = refl;
+  E-rule-3 = refl;
+  E-large = refl;
+  W-large = refl;
+  D-rule-0 = refl;
+  D-rule-1 = refl;
+  D-rule-2 = refl;
 }

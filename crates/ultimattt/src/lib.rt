@@ -1,4 +1,4 @@
-// The calls of the library: replay and legal moves of a record, and their exports.
+// The calls of the library: replay, legal moves and the referee's value of a record, and their exports.
 
 ghost use mathlib.Core.Path.{_≡_};
 ghost use mathlib.Core.List.{_++_};
@@ -8,8 +8,8 @@ ghost use Rattle.rules.specs.Rules.{Position, legalMoves, replay};
 ghost use Rattle.game.specs.Numbers.{errorNumber};
 ghost use Rattle.game.specs.Lines.{lineTable};
 ghost use Rattle.game.specs.Words.{Holds, Held};
-ghost use Rattle.ultimattt.specs.Calls.{replayOutcome, movesOutcome, afterMoves, replayCall, movesCall};
-ghost use Rattle.ultimattt.specs.Answers.{replayed, listing};
+ghost use Rattle.ultimattt.specs.Calls.{replayOutcome, movesOutcome, refereeOutcome, afterMoves, replayCall, movesCall, refereeCall};
+ghost use Rattle.ultimattt.specs.Answers.{replayed, listing, refereed};
 ghost use Rattle.ultimattt.specs.Playing.{Played};
 ghost use Rattle.ultimattt.specs.Writing.{Written};
 use game::Game;
@@ -24,6 +24,11 @@ const RECORD_LENGTH: usize = 21;
 
 const MOVES_LENGTH: usize = 81;
 
+// The largest draw rule, and the most empty cells in boards in play that the referee takes.
+const LAST_RULE: u64 = 2;
+
+const MOST_OPEN: usize = 9;
+
 // The answer of replay: the record is written, or a check refused it, or a move is bad, with its index.
 pub enum Replayed {
     Done,
@@ -35,6 +40,12 @@ pub enum Replayed {
 pub enum Listed {
     Count(usize),
     Turned(u8),
+}
+
+// The answer of referee: the value for the side to move, or the check that turned the call back.
+pub enum Refereed {
+    Value(bool),
+    Declined(u8),
 }
 
 // Moves made one after the other: the result of the last one tried, its index, and the position that was reached.
@@ -154,6 +165,26 @@ pub fn legal_moves(bytes: &[u8], out: &mut [u8]) -> Listed
     Listed::Count(write_moves(&table, &words, out))
 }
 
+// The value of a small ending by going through everything that can follow.
+pub fn referee(bytes: &[u8], rule: u64) -> Refereed
+    ensures { λ r. ⌜ refereed r ≡ refereeCall (now (bytes .entry)) rule ⌝ }
+{
+    let loaded = record::load(bytes);
+    if loaded.code != 0 {
+        return Refereed::Declined(loaded.code);
+    }
+    if rule > LAST_RULE {
+        return Refereed::Declined(10);
+    }
+    let pos = loaded.game;
+    let words = pos.words;
+    if referee::open_cells(&words, 0) > MOST_OPEN {
+        return Refereed::Declined(16);
+    }
+    let table = game::line_table();
+    Refereed::Value(referee::value(&table, pos, rule))
+}
+
 // The answer of replay as C has it: code is 0 or the refusal's number, index the bad move's with 11 to 15 and 0 elsewhere.
 #[repr(C)]
 pub struct ReplayAnswer {
@@ -199,6 +230,30 @@ pub extern "C" fn uttt_legal_moves(bytes: &[u8], out: &mut [u8]) -> MovesAnswer
         Listed::Turned(n) => MovesAnswer {
             code: n as u32,
             count: 0,
+        },
+    }
+}
+
+// The answer of referee as C has it: code is 0 or the refusal's number; value is 1 for True, 2 for False, and 0 with a refusal.
+#[repr(C)]
+pub struct RefereeAnswer {
+    pub code: u32,
+    pub value: u32,
+}
+
+#[no_mangle]
+pub extern "C" fn uttt_referee(bytes: &[u8], rule: u64) -> RefereeAnswer
+    ensures { λ r. ⌜ refereeOutcome (r .code) (r .value) ≡ refereeCall (now (bytes .entry)) rule ⌝ }
+{
+    let answer = referee(bytes, rule);
+    match answer {
+        Refereed::Value(v) => RefereeAnswer {
+            code: 0,
+            value: if v { 1 } else { 2 },
+        },
+        Refereed::Declined(n) => RefereeAnswer {
+            code: n as u32,
+            value: 0,
         },
     }
 }
