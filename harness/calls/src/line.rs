@@ -4,6 +4,7 @@
 //! moves RECORD [OUTPUT-LENGTH]                          COUNT MOVES
 //! replay RECORD MOVES [OUTPUT-LENGTH]                   RECORD
 //! search RECORD RULE POOL-NODES LIMIT BUDGET INTERVAL   the nine fields
+//! referee RECORD RULE                                   True or False
 //!                                                       refused NUMBER INDEX
 //! ```
 //!
@@ -21,6 +22,7 @@ pub enum Call {
     Moves { record: Vec<u8>, output: usize },
     Replay { record: Vec<u8>, moves: Vec<u8>, output: usize },
     Search { record: Vec<u8>, rule: u64, pool: u64, limit: u64, budget: u64, interval: u64 },
+    Referee { record: Vec<u8>, rule: u64 },
 }
 
 /// Which call it is.
@@ -29,10 +31,11 @@ pub enum Kind {
     Moves,
     Replay,
     Search,
+    Referee,
 }
 
 impl Kind {
-    pub const ALL: [Kind; 3] = [Kind::Moves, Kind::Replay, Kind::Search];
+    pub const ALL: [Kind; 4] = [Kind::Moves, Kind::Replay, Kind::Search, Kind::Referee];
 
     /// The word that a call's line starts with.
     pub fn name(self) -> &'static str {
@@ -40,6 +43,7 @@ impl Kind {
             Kind::Moves => "moves",
             Kind::Replay => "replay",
             Kind::Search => "search",
+            Kind::Referee => "referee",
         }
     }
 }
@@ -50,6 +54,7 @@ impl Call {
             Call::Moves { .. } => Kind::Moves,
             Call::Replay { .. } => Kind::Replay,
             Call::Search { .. } => Kind::Search,
+            Call::Referee { .. } => Kind::Referee,
         }
     }
 }
@@ -80,6 +85,7 @@ pub enum Answer {
     Moves(Vec<u8>),
     Record(Vec<u8>),
     Search(Fields),
+    Value(bool),
     Refused { number: u32, index: u64 },
 }
 
@@ -114,6 +120,7 @@ impl fmt::Display for Answer {
             Answer::Moves(moves) => write!(f, "{} {}", moves.len(), hex::show(moves)),
             Answer::Record(record) => write!(f, "{}", hex::show(record)),
             Answer::Search(fields) => write!(f, "{}", fields),
+            Answer::Value(value) => write!(f, "{}", if *value { "True" } else { "False" }),
             Answer::Refused { number, index } => write!(f, "refused {} {}", number, index),
         }
     }
@@ -133,6 +140,7 @@ impl fmt::Display for Call {
             Call::Search { record, rule, pool, limit, budget, interval } => {
                 write!(f, "search {} {} {} {} {} {}", hex::show(record), rule, pool, limit, budget, interval)
             }
+            Call::Referee { record, rule } => write!(f, "referee {} {}", hex::show(record), rule),
         }
     }
 }
@@ -167,9 +175,13 @@ pub fn parse(line: &str) -> Result<Call, String> {
             budget: number("budget", budget)?,
             interval: number("interval", interval)?,
         }),
+        ["referee", record, rule] => {
+            Ok(Call::Referee { record: bytes("record", record)?, rule: number("rule", rule)? })
+        }
         ["moves", ..] => Err("moves takes RECORD [OUTPUT-LENGTH]".to_string()),
         ["replay", ..] => Err("replay takes RECORD MOVES [OUTPUT-LENGTH]".to_string()),
         ["search", ..] => Err("search takes RECORD RULE POOL-NODES LIMIT BUDGET INTERVAL".to_string()),
+        ["referee", ..] => Err("referee takes RECORD RULE".to_string()),
         [other, ..] => Err(format!("no call is named {:?}", other)),
     }
 }

@@ -1,10 +1,10 @@
-//! Document 01's table of refusals, checks 1 to 10, as plain code of our own. The original has no
+//! Document 01's table of refusals, checks 1 to 10 and 16, as plain code of our own. The original has no
 //! such checks, so these are not its answers: they decide what is handed to it, and they are what a
 //! refusal of the proved library is compared with. Refusals 11 to 15 are the original's own errors.
 //!
 //! Every function gives the lowest check that fails, or none.
 
-use crate::record::{Position, FREE_CHOICE, LENGTH, O, X};
+use crate::record::{Position, EMPTY, FREE_CHOICE, LENGTH, O, X};
 
 const LINES: [[usize; 3]; 8] = [[0, 1, 2], [3, 4, 5], [6, 7, 8], [0, 3, 6], [1, 4, 7], [2, 5, 8], [0, 4, 8], [2, 4, 6]];
 
@@ -12,6 +12,8 @@ pub const LARGEST_POOL: u64 = 16_777_216;
 pub const LARGEST_INTERVAL: u64 = 1_000_000;
 pub const LARGEST_BUDGET: u64 = 1_000_000_000_000;
 pub const LARGEST_RULE: u64 = 2;
+/// The most empty cells of boards in play that the referee takes.
+pub const MOST_OPEN_CELLS: usize = 9;
 /// Room that the answers need: a record, and the moves of an empty game.
 pub const RECORD_ROOM: usize = LENGTH;
 pub const MOVES_ROOM: usize = 81;
@@ -102,4 +104,17 @@ pub fn output_refusal(record: &[u8], output: usize, room: usize) -> Option<u32> 
 pub fn search_refusal(record: &[u8], rule: u64, pool: u64, budget: u64, interval: u64) -> Option<u32> {
     let settings = rule > LARGEST_RULE || !(1..=LARGEST_INTERVAL).contains(&interval) || budget > LARGEST_BUDGET;
     record_refusal(record).or(first(&[(8, pool < 1), (9, pool > LARGEST_POOL), (10, settings)]))
+}
+
+/// Empty cells of boards in play.
+pub fn open_cells(position: &Position) -> usize {
+    let open = position.cells.iter().filter(|board| board_state(board) == Board::InPlay);
+    open.flatten().filter(|c| **c == EMPTY).count()
+}
+
+/// Checks 1 to 6, 10 and 16 of the referee.
+pub fn referee_refusal(record: &[u8], rule: u64) -> Option<u32> {
+    let many = |bytes: &[u8; LENGTH]| open_cells(&Position::read(bytes)) > MOST_OPEN_CELLS;
+    let large = <&[u8; LENGTH]>::try_from(record).is_ok_and(many);
+    record_refusal(record).or(first(&[(10, rule > LARGEST_RULE), (16, large)]))
 }

@@ -5,9 +5,14 @@ use calls::{hex, line, table, Call};
 
 #[test]
 fn lines_are_read_and_printed() {
-    for text in
-        ["moves -", "moves 78 80", "replay 7800 4400", "replay - - 22", "search 00 0 1 18446744073709551615 3 4"]
-    {
+    for text in [
+        "moves -",
+        "moves 78 80",
+        "replay 7800 4400",
+        "replay - - 22",
+        "search 00 0 1 18446744073709551615 3 4",
+        "referee 00 2",
+    ] {
         assert_eq!(line::parse(text).expect(text).to_string(), text);
     }
     assert_eq!(line::parse(" moves  78\t81 \n"), Ok(Call::Moves { record: vec![0x78], output: 81 }));
@@ -26,6 +31,8 @@ fn wrong_lines_are_told() {
         "moves 00 1000001",
         "replay 00",
         "search 00 0 1 2 3",
+        "referee 00",
+        "referee 00 0 1",
         "search 00 0 1 2 3 -4",
         "search 00 0 1 18446744073709551616 3 4",
     ];
@@ -83,6 +90,8 @@ fn settings_are_checked_in_order() {
     assert_eq!(refusal(2, 1, 1_000_000_000_001, 1), Some(10));
     assert_eq!(refusal(2, 1, 1_000_000_000_000, 1_000_001), Some(10));
     assert_eq!(refusal(2, 1, 1_000_000_000_000, 1_000_000), None);
+    assert_eq!(table::referee_refusal(&record, 3), Some(10));
+    assert_eq!(table::referee_refusal(&record, 2), Some(16));
     assert_eq!(table::output_refusal(&record, 20, table::RECORD_ROOM), Some(7));
     assert_eq!(table::output_refusal(&record, 80, table::MOVES_ROOM), Some(7));
 }

@@ -70,8 +70,9 @@ fn kind(call: &Call, answer: &Answer) -> String {
         Answer::Search(fields) => format!("{:?}, cause {}", fields.verdict, fields.cause),
         Answer::Moves(moves) if moves.is_empty() => "none".to_string(),
         Answer::Moves(_) | Answer::Record(_) => "answered".to_string(),
+        Answer::Value(_) => answer.to_string(),
     };
-    format!("{:<6}  {}", call.kind().name(), outcome)
+    format!("{:<7}  {}", call.kind().name(), outcome)
 }
 
 fn report(call: &Call) {

@@ -45,6 +45,11 @@ fn smaller(call: &Call) -> Vec<Call> {
             out.extend(records(record).map(|r| with(r, *pool, *limit, *budget, *interval)));
             out
         }
+        Call::Referee { record, rule } => {
+            let mut out: Vec<Call> = lower(*rule).map(|rule| Call::Referee { record: record.clone(), rule }).collect();
+            out.extend(records(record).map(|record| Call::Referee { record, rule: *rule }));
+            out
+        }
     }
 }
 

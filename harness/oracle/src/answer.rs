@@ -1,8 +1,9 @@
 //! The calls of document 01, answered by the original: replay by `make_move`, legal moves by
 //! `all_moves` (never on a finished position, where document 01 says there are none), search by
-//! `Prover::prove`. Refusals 1 to 10 come from `calls::table`.
+//! `Prover::prove`. Refusals 1 to 10 and 16 come from `calls::table`. The original has no referee: its
+//! answer is our own exhaustive value over the original's moves (`value`).
 
-use crate::game::{Move, MoveError};
+use crate::game::{Game, GameState, Move, MoveError, Player};
 use crate::load;
 use crate::prove::pn::{sizeof_node, Config, Prover};
 use crate::prove::Evaluation;
@@ -28,6 +29,10 @@ pub fn answer(call: &Call) -> Answer {
                 Answer::Search(search(accepted(record), *rule, *pool, *limit, *budget, *interval))
             })
         }
+        Call::Referee { record, rule } => refused_or(table::referee_refusal(record, *rule), || {
+            let game = load::game(accepted(record));
+            Answer::Value(value(&game, *rule, game.player()))
+        }),
     }
 }
 
@@ -95,5 +100,28 @@ pub fn search(record: &[u8; LENGTH], rule: u64, pool: u64, limit: u64, budget: u
         disproved: result.stats.disproved as u64,
         expanded: result.stats.expanded as u64,
         cause: result.cause.into(),
+    }
+}
+
+/// The value under a draw rule for the root's side, by looking at everything that can follow: a won
+/// position is True for its winner; drawn is lost by its own side to move (rule 0), False (1) or
+/// True (2); otherwise the root's side needs one move to True, the other side one to False.
+pub fn value(game: &Game, rule: u64, root: Player) -> bool {
+    let own = game.player() == root;
+    match game.game_state() {
+        GameState::Won(winner) => winner == root,
+        GameState::Drawn => match rule {
+            0 => !own,
+            1 => false,
+            _ => true,
+        },
+        GameState::InPlay => {
+            let mut after = game.all_moves().map(|m| game.make_move(m).expect("a listed move is legal"));
+            if own {
+                after.any(|next| value(&next, rule, root))
+            } else {
+                after.all(|next| value(&next, rule, root))
+            }
+        }
     }
 }

@@ -9,7 +9,7 @@ use std::collections::BTreeSet;
 fn one_seed_gives_one_list() {
     let list = |seed| {
         let mut random = Random::new(seed);
-        (0..300).map(|i| call(&mut random, Kind::ALL[i % 3])).collect::<Vec<Call>>()
+        (0..300).map(|i| call(&mut random, Kind::ALL[i % Kind::ALL.len()])).collect::<Vec<Call>>()
     };
     assert_eq!(list(5), list(5));
     assert_ne!(list(5), list(6));
@@ -22,7 +22,7 @@ fn outcomes(kind: Kind) -> BTreeSet<u64> {
     let outcome = |answer| match answer {
         Answer::Refused { number, .. } => number as u64,
         Answer::Search(fields) => 20 + fields.cause,
-        Answer::Moves(_) | Answer::Record(_) => 0,
+        Answer::Moves(_) | Answer::Record(_) | Answer::Value(_) => 0,
     };
     answers.map(outcome).collect()
 }
@@ -32,6 +32,7 @@ fn every_outcome_is_reached() {
     assert_eq!(outcomes(Kind::Moves), (0..=7).collect());
     assert_eq!(outcomes(Kind::Replay), (0..=7).chain(11..=15).collect());
     assert_eq!(outcomes(Kind::Search), (1..=6).chain(8..=10).chain(20..=23).collect());
+    assert_eq!(outcomes(Kind::Referee), (0..=6).chain([10, 16]).collect());
 }
 
 /// An accepted record loads and is stored as the same bytes; after each move of a replay the

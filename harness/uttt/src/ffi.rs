@@ -16,6 +16,14 @@ pub struct Moves {
     pub count: u64,
 }
 
+#[repr(C)]
+pub struct Refereed {
+    /// 0, or the refusal's number.
+    pub code: u32,
+    /// 1 True, 2 False; 0 with a refusal.
+    pub value: u32,
+}
+
 extern "C" {
     pub fn uttt_replay(
         record: *const u8,
@@ -27,4 +35,6 @@ extern "C" {
     ) -> Replayed;
 
     pub fn uttt_legal_moves(record: *const u8, record_length: usize, output: *mut u8, output_length: usize) -> Moves;
+
+    pub fn uttt_referee(record: *const u8, record_length: usize, rule: u64) -> Refereed;
 }

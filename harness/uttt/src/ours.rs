@@ -7,7 +7,7 @@ use calls::record::LENGTH;
 use calls::{Answer, Call, Kind};
 
 /// The calls that the library exports today.
-pub const LANDED: &[Kind] = &[Kind::Moves, Kind::Replay];
+pub const LANDED: &[Kind] = &[Kind::Moves, Kind::Replay, Kind::Referee];
 
 /// Answers a call under two opposite patterns, or says what is wrong.
 pub fn answer(call: &Call) -> Result<Answer, String> {
@@ -23,6 +23,7 @@ fn answer_under(call: &Call, pattern: u8) -> Result<Answer, String> {
     match call {
         Call::Moves { record, output } => moves(record, *output, pattern),
         Call::Replay { record, moves, output } => replay(record, moves, *output, pattern),
+        Call::Referee { record, rule } => referee(record, *rule),
         other => Err(format!("the library has no {} yet", other.kind().name())),
     }
 }
@@ -54,6 +55,20 @@ fn replay(record: &[u8], moves: &[u8], output: usize, pattern: u8) -> Result<Ans
         return Err(format!("answered with index {}", answered.index));
     }
     Ok(Answer::Record(lent.written(LENGTH)?.to_vec()))
+}
+
+fn referee(record: &[u8], rule: u64) -> Result<Answer, String> {
+    let record_before = record.to_vec();
+    // SAFETY: pointer and length belong together.
+    let answered = unsafe { ffi::uttt_referee(record.as_ptr(), record.len(), rule) };
+    same("record", &record_before, record)?;
+    match (answered.code, answered.value) {
+        (0, 1) => Ok(Answer::Value(true)),
+        (0, 2) => Ok(Answer::Value(false)),
+        (0, other) => Err(format!("answered with value {}", other)),
+        (number, 0) => Ok(Answer::refused(number)),
+        (number, other) => Err(format!("refused {} with a value, {}", number, other)),
+    }
 }
 
 /// A refusal writes nothing and gives no result.

@@ -9,8 +9,8 @@ mod settings;
 
 pub use random::Random;
 
-use calls::record::{Position, EMPTY, LENGTH};
-use calls::table::{board_state, Board, MOVES_ROOM, RECORD_ROOM};
+use calls::record::{Position, LENGTH};
+use calls::table::{open_cells, MOVES_ROOM, RECORD_ROOM};
 use calls::{Call, Kind};
 
 /// A call of the given kind.
@@ -29,6 +29,7 @@ pub fn call(random: &mut Random, kind: Kind) -> Call {
             Call::Replay { record, moves, output: output(random, RECORD_ROOM) }
         }
         Kind::Search => search(random),
+        Kind::Referee => referee(random),
     }
 }
 
@@ -66,8 +67,11 @@ fn search(random: &mut Random) -> Call {
     Call::Search { record, rule: s.rule, pool: s.pool, limit: s.limit, budget: s.budget, interval: s.interval }
 }
 
-/// Empty cells of boards in play.
-fn open_cells(position: &Position) -> usize {
-    let open = position.cells.iter().filter(|board| board_state(board) == Board::InPlay);
-    open.flatten().filter(|c| **c == EMPTY).count()
+/// Endings most often, so that many are small enough to be answered.
+fn referee(random: &mut Random) -> Call {
+    let record = match random.below(8) {
+        0..=5 => positions::ending(random).write().to_vec(),
+        _ => record(random),
+    };
+    Call::Referee { record, rule: settings::rule(random) }
 }

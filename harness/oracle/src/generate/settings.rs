@@ -15,7 +15,7 @@ pub struct Settings {
 /// pool.
 pub fn settings(random: &mut Random, small: bool) -> Settings {
     let mut settings = Settings {
-        rule: if random.once_in(40) { random.pick(&[3, 255, 256, u64::MAX]) } else { random.below(3) },
+        rule: rule(random),
         pool: pool(random),
         limit: limit(random),
         budget: budget(random),
@@ -25,6 +25,15 @@ pub fn settings(random: &mut Random, small: bool) -> Settings {
         settings.budget %= 10_000;
     }
     settings
+}
+
+/// A draw rule; now and then none of the three.
+pub fn rule(random: &mut Random) -> u64 {
+    if random.once_in(40) {
+        random.pick(&[3, 255, 256, u64::MAX])
+    } else {
+        random.below(3)
+    }
 }
 
 fn pool(random: &mut Random) -> u64 {
