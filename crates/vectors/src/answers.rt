@@ -10,7 +10,7 @@ use words::Number;
 // What an output holds before a call. No legal move is this byte.
 const PATTERN: u8 = 0xA5;
 
-// The answer that is stored: 0 or a refusal's number; and the refusal's index, or how many moves there are.
+// The answer that is stored: 0 or a refusal's number; and the refusal's index, how many moves there are, or the value's number.
 pub enum Stored {
     Answer(u64, u64),
     Unreadable,
@@ -70,6 +70,21 @@ fn read_answer(s: &[u8], at: usize, counted: bool, want: &mut [u8]) -> Stored {
         return Stored::Unreadable;
     };
     given(s, next, count, count, want)
+}
+
+// The answer after a place: a refusal; or a value, 1 for True and 2 for False.
+fn read_value(s: &[u8], at: usize) -> Stored {
+    let w = words::next_word(s, at);
+    if words::is_word(s, w, b"refused") {
+        return refusal(s, w.end);
+    }
+    if words::is_word(s, w, b"True") {
+        return ended(s, w.end, 0, 1);
+    }
+    if words::is_word(s, w, b"False") {
+        return ended(s, w.end, 0, 2);
+    }
+    Stored::Unreadable
 }
 
 // A length and a place, if `most` is as long.
@@ -140,4 +155,10 @@ pub fn settle(
     let mut want = untouched();
     let stored = read_answer(s, at, counted, &mut want);
     compare(stored, code, number, &want, out)
+}
+
+// Compares the value that a call gave with the answer after a place. Nothing was lent.
+pub fn settle_value(s: &[u8], at: usize, code: u64, value: u64) -> Outcome {
+    let none = untouched();
+    compare(read_value(s, at), code, value, &none, &none)
 }

@@ -4,6 +4,7 @@ use crate::answers;
 use crate::words;
 use answers::Outcome;
 use words::Count;
+use words::Number;
 use words::Word;
 
 // `moves RECORD [OUTPUT-LENGTH] => COUNT MOVES`
@@ -35,6 +36,19 @@ fn replay(s: &[u8], at: usize, record: &[u8]) -> Outcome {
     replay_of(s, place, record, &moves[..n])
 }
 
+// `referee RECORD RULE => VALUE`
+fn referee(s: &[u8], at: usize, record: &[u8]) -> Outcome {
+    let Number::Value(rule, next) = words::read_number(s, at) else {
+        return Outcome::Unreadable;
+    };
+    let arrow = words::next_word(s, next);
+    if !words::is_word(s, arrow, b"=>") {
+        return Outcome::Unreadable;
+    }
+    let got = ultimattt::uttt_referee(record, rule);
+    answers::settle_value(s, arrow.end, got.code as u64, got.value as u64)
+}
+
 // Runs the call of that name.
 pub fn run(s: &[u8], name: Word, at: usize, record: &[u8]) -> Outcome
     requires { ⌜ Inside name (now s) ⌝ }
@@ -44,6 +58,9 @@ pub fn run(s: &[u8], name: Word, at: usize, record: &[u8]) -> Outcome
     }
     if words::is_word(s, name, b"replay") {
         return replay(s, at, record);
+    }
+    if words::is_word(s, name, b"referee") {
+        return referee(s, at, record);
     }
     Outcome::Unreadable
 }
