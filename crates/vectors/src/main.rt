@@ -1,4 +1,4 @@
-// Runs a stored list of the original's answers over the library. Standard input has lines `CALL => ANSWER`.
+// Runs a stored list of the oracle's answers over the library. Standard input has lines `CALL => ANSWER`.
 // Each line whose answer differs or that can't be read is named; in the end come the number of lines and how many agreed.
 mod answers;
 mod calls;

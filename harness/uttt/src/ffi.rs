@@ -1,5 +1,5 @@
-//! The exports of the proved library, as include/ultimattt.h declares them. A slice is a pointer
-//! and a length; buffers may not overlap.
+//! The exports of the proved library, crate `ultimattt`, as C has them. A slice is a pointer and a
+//! length; buffers may not overlap.
 
 #[repr(C)]
 pub struct Replayed {
