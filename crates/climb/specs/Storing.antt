@@ -14,7 +14,7 @@ use Rattle.machine.specs.Machine.{Ancestor, State, state, renumber, store}
 use Rattle.machine.specs.Numbers.{open-of}
 use Rattle.plain.specs.Plain.{game}
 use Rattle.words.specs.Packed.{View, view, bit, packed, andIn, packed-read}
-use Rattle.words.specs.Words.{NONE, PHI, DELTA, PACKED, FIRST, word, setWord, Beyond, only-beyond}
+use Rattle.words.specs.Words.{NONE, PHI, DELTA, PACKED, FIRST, word, setWord, Beyond, beyond-trans, only-beyond}
 use Rattle.words.specs.Words as words
 use Rattle.words.specs.Freeing.{Freeable}
 use Rattle.words.specs.Pool.{Holding, Holds}
@@ -27,9 +27,6 @@ use Rattle.node_pool.specs.Contracts.{FreedAll}
 use Rattle.prover.specs.declared.Prover.{Prover}
 use Rattle.prover.specs.Stands.{Positions, Stands}
 use Rattle.climb.specs.Asks.{zeros, Counted, Ascending, Stored}
-
-pub beyond-trans : (w v u : List ℕ) → length v ≡ length w → Beyond w v → Beyond v u → Beyond w u
-beyond-trans w v u long a b j l = b j (omega arith) ∙ a j l
 
 -- The line's positions are the same where the current node's is; and without it they are those of the nodes above
 pub positions-same : (ps : List ℕ) (d : ℕ) (up : List (Ancestor Position)) (n m : Node Position) → n .pos ≡ m .pos → Positions ps d up n → Positions ps d up m

@@ -35,13 +35,13 @@ use Rattle.prover.specs.declared.Prover.{Prover}
 use Rattle.prover.specs.Stands.{Stands}
 use Rattle.climb.specs.Asks.{Climbable}
 
-abbrev zeroes : ℕ → List ℕ
+abbrev pub zeroes : ℕ → List ℕ
 zeroes n = answers (λ k. 0) 0 n
 
-long : (n : ℕ) → length (zeroes n) ≡ n
+pub long : (n : ℕ) → length (zeroes n) ≡ n
 long n = length-answers {A = ℕ} (λ k. 0) 0 n
 
-abbrev W : Position
+abbrev pub W : Position
 W = record {
   side = X;
   target = 2;
@@ -57,38 +57,41 @@ W = record {
 abbrev G : Game
 G = game 0 X
 
--- Its positions' words, and those of its pool: the root, and the child by move 22 (hexadecimal)
-abbrev ps : List ℕ
-ps = 7 ∷ 7 ∷ 3 ∷ 0 ∷ 0 ∷ 0 ∷ 0 ∷ 0 ∷ 0 ∷ 0 ∷ 0 ∷ 192 ∷ 7 ∷ 7 ∷ 0 ∷ 0 ∷ 0 ∷ 0 ∷ 3 ∷ 24 ∷ 0 ∷ 2 ∷ 0 ∷ zeroes 1945
+-- Its 23 words with n zeroes behind, and the words of its pool: the root, and the child by move 22 (hexadecimal)
+abbrev pub words : ℕ → List ℕ
+words n = 7 ∷ 7 ∷ 3 ∷ 0 ∷ 0 ∷ 0 ∷ 0 ∷ 0 ∷ 0 ∷ 0 ∷ 0 ∷ 192 ∷ 7 ∷ 7 ∷ 0 ∷ 0 ∷ 0 ∷ 0 ∷ 3 ∷ 24 ∷ 0 ∷ 2 ∷ 0 ∷ zeroes n
+
+abbrev pub ps : List ℕ
+ps = words 1945
 
 abbrev pool : List ℕ
 pool = 1 ∷ 1 ∷ 670564352 ∷ 1 ∷ NONE ∷ 2147483648 ∷ 0 ∷ 1360003072 ∷ NONE ∷ NONE ∷ []
 
 -- The position, by a test of its masks
-masked : (s : Player) → all (λ b. eqb (getD ps (0 + (sideBit s * 9 + b)) 0) (mask (mark s) (board (W .cells) b))) (answers (λ b. b) 0 9) ≡ true
+masked : (n : ℕ) (s : Player) → all (λ b. eqb (getD (words n) (0 + (sideBit s * 9 + b)) 0) (mask (mark s) (board (W .cells) b))) (answers (λ b. b) 0 9) ≡ true
 unfolding board
-masked X = refl
-masked O = refl
+masked n X = refl
+masked n O = refl
 
-won : (s : Player) → getD ps (0 + (18 + sideBit s)) 0 ≡ mask (mark s) (boardStates (W .cells))
+won : (n : ℕ) (s : Player) → getD (words n) (0 + (18 + sideBit s)) 0 ≡ mask (mark s) (boardStates (W .cells))
 unfolding hasLine state board boardStates
-won X = refl
-won O = refl
+won n X = refl
+won n O = refl
 
-drawn-none : getD ps 20 0 ≡ mask 3 (boardStates (W .cells))
+drawn-none : (n : ℕ) → getD (words n) 20 0 ≡ mask 3 (boardStates (W .cells))
 unfolding hasLine state board boardStates
-drawn-none = refl
+drawn-none n = refl
 
-position : game-words.Holds W ps 0
-position = record {
+pub position : (n : ℕ) → game-words.Holds W (words n) 0
+position n = record {
   whole = refl;
   codes = refl;
-  room = omega (arith, long 1945);
+  room = omega arith;
   masks = λ s b l.
-      let f : ℕ → Bool = λ y. eqb (getD ps (0 + (sideBit s * 9 + y)) 0) (mask (mark s) (board (W .cells) y)) in
-      eqb-true _ _ (subst (λ (y : ℕ). f y ≡ true) (answers-zero (λ y. y) 9 b 0 l) (all-at f (answers (λ y. y) 0 9) b 0 (masked s) l));
-  won = won;
-  drawn = drawn-none;
+      let f : ℕ → Bool = λ y. eqb (getD (words n) (0 + (sideBit s * 9 + y)) 0) (mask (mark s) (board (W .cells) y)) in
+      eqb-true _ _ (subst (λ (y : ℕ). f y ≡ true) (answers-zero (λ y. y) 9 b 0 l) (all-at f (answers (λ y. y) 0 9) b 0 (masked n s) l));
+  won = won n;
+  drawn = drawn-none n;
   target = refl;
   side = refl;
 }
@@ -112,7 +115,7 @@ packed-is = refl
 abbrev rest : List ℕ
 rest = 35 ∷ 36 ∷ 37 ∷ 40 ∷ []
 
-moves-are : legalMoves W ≡ 34 ∷ rest
+pub moves-are : legalMoves W ≡ 34 ∷ rest
 unfolding hasLine state board boardStates gameState legalMoves
 moves-are = refl
 
@@ -165,7 +168,7 @@ stands = record {
     freed-is = refl;
     balance = omega arith;
   };
-  positions = position;
+  positions = position 1945;
   proved-is = refl;
   disproved-is = refl;
   expanded-is = refl;

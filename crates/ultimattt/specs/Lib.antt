@@ -4,3 +4,6 @@ pub mod Turned
 pub mod Playing
 pub mod Writing
 pub mod Cases
+pub mod Searches
+pub mod ThirdCondition
+pub mod TwoSearches

@@ -84,6 +84,9 @@ stored w v i f x s h e = subst (λ (l : List ℕ). Stored w l i f x) (sym e) rec
   beside = λ g z. getD-set-other w (i * 5 + f) (i * 5 + g) x 0 (λ q. z (omega arith));
 }
 
+pub beyond-trans : (w v u : List ℕ) → length v ≡ length w → Beyond w v → Beyond v u → Beyond w u
+beyond-trans w v u long a b j l = b j (omega arith) ∙ a j l
+
 -- What touches no node past the capacity touches no word there
 pub beyond : (w v : List ℕ) → ((x : ℕ) → capacity w ≤ x → Agree w v x) → Beyond w v
 beyond w v a j l =

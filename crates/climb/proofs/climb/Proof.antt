@@ -5,10 +5,9 @@ use Prim.Native.Nat.{suc}
 use native.Mathlib.Omega.{arith}
 use lib.ListN.{length}
 use Rattle.plain.specs.Plain.{game}
-use Rattle.words.specs.Words.{Beyond}
+use Rattle.words.specs.Words.{Beyond, beyond-trans}
 use Rattle.words.specs.Freeing.{plies}
 use Rattle.climb.specs.Asks.{climbed, Climbable, Ascending, Way}
-use Rattle.climb.specs.Storing.{beyond-trans}
 use Rattle.climb.specs.Turns.{starts, goes-on, ends}
 use Rattle.climb.proofs.climb.Statement.{statement}
 use Rattle.climb.proofs.climb.Tie as tie

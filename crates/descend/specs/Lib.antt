@@ -1,0 +1,4 @@
+pub mod Contracts
+pub mod Selecting
+pub mod Down
+pub mod Descending

@@ -1,0 +1,5 @@
+pub mod Progress
+pub mod Boards
+pub mod Targets
+pub mod Expandable
+pub mod Expanding

@@ -1,0 +1,112 @@
+-- A search of a position between two rounds, as its code keeps it, and its result. Rests on prover's Stands, Courses, Ticks and Root.
+use mathlib.Core.Path.{_≡_, refl, ap, sym, _∙_, subst}
+use mathlib.Core.Bool.{Bool, true, false, cond, _||_}
+use mathlib.Core.List.{List}
+use Prim.Native.Nat.{ℕ, zero, suc, _+_, _*_, _-_, _≤_, _<_}
+use native.Mathlib.Omega.{arith}
+use lib.Dec.{eqb}
+use lib.ListN.{length, getD}
+use Rattle.rules.specs.Rules.{Player, Position, count}
+use Rattle.machine.specs.Tree.{solved, proofOf, disproofOf}
+use Rattle.machine.specs.Machine as machine
+use Rattle.machine.specs.Rounds.{StateOk}
+use Rattle.plain.specs.Plain.{game, gameOf, searchOf}
+use Rattle.plain.specs.Laws.{root-mine}
+use Rattle.prove.specs.Numbers.{verdict}
+use Rattle.words.specs.Packed.{view}
+use Rattle.words.specs.Words.{PHI, DELTA, word, capacity}
+use Rattle.words.specs.Trees.{Held}
+use Rattle.prover.specs.Stands.{Stands}
+use Rattle.pn.specs.Ticks.{Ticks}
+use Rattle.pn.specs.Courses.{Leads, Ends}
+use Rattle.pn.specs.Root.{root-place, root-held}
+use Rattle.pn.specs.declared.Settings.{Settings}
+use Rattle.pn.specs.declared.Running.{Running}
+use Rattle.pn.specs.declared.SearchResult.{SearchResult}
+
+-- the machine's settings, with the pool's capacity in nodes
+abbrev pub machineSettings : List ℕ → Settings → machine.Settings
+machineSettings w s = record { pool = capacity w; limit = s .limit; budget = s .budget; interval = s .interval }
+
+-- the nine fields as the machine has them
+abbrev pub resultOf : SearchResult → machine.Result
+resultOf r = record {
+  verdict = verdict (r .verdict);
+  proof = r .proof;
+  disproof = r .disproof;
+  allocated = r .allocated;
+  freed = r .freed;
+  proved = r .proved;
+  disproved = r .disproved;
+  expanded = r .expanded;
+  cause = r .cause;
+}
+
+-- nine fields that are alike
+abbrev fields : machine.Verdict → (proof disproof allocated freed proved disproved expanded cause : ℕ) → machine.Result
+fields v p d a f o n e c = record { verdict = v; proof = p; disproof = d; allocated = a; freed = f; proved = o; disproved = n; expanded = e; cause = c }
+
+fields-alike : (v v′ : machine.Verdict) (p p′ d d′ a a′ f f′ o o′ n n′ e e′ c c′ : ℕ)
+    → v ≡ v′ → p ≡ p′ → d ≡ d′ → a ≡ a′ → f ≡ f′ → o ≡ o′ → n ≡ n′ → e ≡ e′ → c ≡ c′ → fields v p d a f o n e c ≡ fields v′ p′ d′ a′ f′ o′ n′ e′ c′
+fields-alike v v′ p p′ d d′ a a′ f f′ o o′ n n′ e e′ c c′ ev ep ed ea ef eo en ee ec = rw (ev, ep, ed, ea, ef, eo, en, ee, ec)
+
+-- the ranges that keep counts within their words
+pub record Ranges (w : List ℕ) (s : Settings) : Type 0 where
+  pub some : 0 < capacity w
+  pub few : capacity w ≤ 16777216
+  pub interval-some : 0 < s .interval
+  pub budget-most : s .budget ≤ 1000000000000
+  pub rule-few : s .rule < 3
+
+-- a search of p stands there: it goes on as the machine's does, or has ended
+pub record Going (p : Position) (s : Settings) (w path ps : List ℕ) (x : Running) : Type 0 where
+  pub at : machine.State Position
+  pub stands : Stands (s .rule) (p .side) w path ps (x .prover) at
+  pub ok : StateOk (gameOf (s .rule) p) p (capacity w) at
+  pub few : count 0 (p .cells) ≤ 81
+  pub allocated-most : at .counts .allocated ≤ 1 + 81 * at .counts .expanded
+  pub onward : x .stop ≡ false
+      → Leads (gameOf (s .rule) p) (machine.standard (gameOf (s .rule) p)) (machineSettings w s) p at × Ticks (s .interval) (at .counts .expanded) (x .tick)
+  pub ended : x .stop ≡ true → Ends (gameOf (s .rule) p) (machine.standard (gameOf (s .rule) p)) (machineSettings w s) p at (x .cause)
+
+module _ (p : Position) (s : Settings) (w path ps : List ℕ) (x : Running) (g : Going p s w path ps x) where
+  -- the root stands at place 0 of the path
+  pub going-root : Held (view (gameOf (s .rule) p)) w (machine.root (g .at)) (getD path 0 0)
+  unfolding machine.root
+  going-root = root-held _ w path (x .prover .depth) (g .at .above) (g .at .node) (g .stands .tree .tree .node) (g .stands .tree .tree .above)
+
+  root-pos : machine.root (g .at) .pos ≡ p
+  unfolding machine.root
+  root-pos = root-place (gameOf (s .rule) p) p (g .at .above) (g .at .node) (g .ok .tree-ok .above)
+
+  mine : gameOf (s .rule) p .mine (machine.root (g .at) .pos) ≡ true
+  mine = ap (gameOf (s .rule) p .mine) root-pos ∙ root-mine (s .rule) p
+
+  proof-is : proofOf (gameOf (s .rule) p) (machine.root (g .at)) ≡ word w (getD path 0 0) PHI
+  unfolding proofOf
+  proof-is = ap (λ b. cond b (machine.root (g .at) .phi) (machine.root (g .at) .delta)) mine ∙ sym (going-root .phi-is)
+
+  disproof-is : disproofOf (gameOf (s .rule) p) (machine.root (g .at)) ≡ word w (getD path 0 0) DELTA
+  unfolding disproofOf
+  disproof-is = ap (λ b. cond b (machine.root (g .at) .delta) (machine.root (g .at) .phi)) mine ∙ sym (going-root .delta-is)
+
+  pub solved-is : solved (machine.root (g .at)) ≡ (eqb (word w (getD path 0 0) PHI) 0 || eqb (word w (getD path 0 0) DELTA) 0)
+  unfolding solved
+  solved-is = rw (going-root .phi-is, going-root .delta-is)
+
+  -- the result, from the root's words and the counts
+  pub going-result : x .stop ≡ true → (r : SearchResult)
+      → r .proof ≡ word w (getD path 0 0) PHI → r .disproof ≡ word w (getD path 0 0) DELTA → verdict (r .verdict) ≡ machine.verdictOf (r .proof) (r .disproof)
+      → r .allocated ≡ x .prover .pool .allocated → r .freed ≡ x .prover .pool .freed → r .proved ≡ x .prover .proved → r .disproved ≡ x .prover .disproved
+      → r .expanded ≡ x .prover .expanded → r .cause ≡ cond (eqb (r .proof) 0 || eqb (r .disproof) 0) 0 (x .cause)
+      → resultOf r ≡ searchOf (s .rule) (machineSettings w s) p
+  unfolding searchOf machine.search machine.result
+  going-result e r ep ed ev ea ef eo en ee ec =
+      let P = proof-is ∙ sym ep in
+      let D = disproof-is ∙ sym ed in
+      let same : (eqb (word w (getD path 0 0) PHI) 0 || eqb (word w (getD path 0 0) DELTA) 0) ≡ (eqb (r .proof) 0 || eqb (r .disproof) 0) = rw (ep, ed) in
+      let cause = ap (λ b. cond b 0 (x .cause)) (solved-is ∙ same) ∙ sym ec in
+      sym (g .ended e
+      ∙ fields-alike _ _ _ _ _ _ _ _ _ _ _ _ _ _ _ _ _ _ (ap (λ n. machine.verdictOf n (disproofOf (gameOf (s .rule) p) (machine.root (g .at)))) P ∙ ap (machine.verdictOf (r .proof)) D ∙ sym ev) P D
+      (sym (g .stands .tree .allocated-is) ∙ sym ea) (sym (g .stands .tree .freed-is) ∙ sym ef) (sym (g .stands .proved-is) ∙ sym eo)
+      (sym (g .stands .disproved-is) ∙ sym en) (sym (g .stands .expanded-is) ∙ sym ee) cause)

@@ -1,0 +1,10 @@
+pub mod Ticks
+pub mod Courses
+pub mod Root
+pub mod Going
+pub mod Ticked
+pub mod Beginning
+pub mod Rounding
+pub mod Steps
+pub mod Stepping
+pub mod Witness
