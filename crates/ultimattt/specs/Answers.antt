@@ -17,9 +17,9 @@ replayed (Refused n) out = replayOutcome n 0 out
 replayed (BadMove e i) out = replayOutcome (errorNumber e) i out
 
 abbrev pub listing : Listed → List ℕ → MovesOutcome
-listing (Count k) out = movesOutcome 0 k out
-listing (Turned n) out = movesOutcome n 0 out
+listing (Count k) out = movesOutcome 0 0 k out
+listing (Turned n) out = movesOutcome n 0 0 out
 
 abbrev pub refereed : Refereed → RefereeOutcome
-refereed (Value v) = refereeOutcome 0 (cond v 1 2)
-refereed (Declined n) = refereeOutcome n 0
+refereed (Value v) = refereeOutcome 0 0 (cond v 1 2)
+refereed (Declined n) = refereeOutcome n 0 0

@@ -32,36 +32,39 @@ replayCall bytes moves out =
     (cond (ltb (length out) 21) (replayOutcome 7 0 out)
     (afterMoves (replay (positionOf bytes) moves 0) out))
 
--- Legal moves: 0 or the number of the refusal; how many there are; the output afterwards, untouched past the last move.
+-- Legal moves: 0 or the number of the refusal; the index, 0 always; how many there are; the output afterwards, untouched past the last move.
 pub record MovesOutcome : Type 0 where
   pub number : ℕ
+  pub index : ℕ
   pub count : ℕ
   pub output : List ℕ
 
-abbrev pub movesOutcome : ℕ → ℕ → List ℕ → MovesOutcome
-movesOutcome n k out = record { number = n; count = k; output = out }
+abbrev pub movesOutcome : ℕ → ℕ → ℕ → List ℕ → MovesOutcome
+movesOutcome n i k out = record { number = n; index = i; count = k; output = out }
 
 abbrev pub listed : List ℕ → List ℕ → MovesOutcome
-listed moves out = movesOutcome 0 (length moves) (moves ++ drop (length moves) out)
+listed moves out = movesOutcome 0 0 (length moves) (moves ++ drop (length moves) out)
 
 unfoldable pub movesCall : (bytes out : List ℕ) → MovesOutcome
 movesCall bytes out =
-    cond (not (eqb (refusal bytes) 0)) (movesOutcome (refusal bytes) 0 out)
-    (cond (ltb (length out) 81) (movesOutcome 7 0 out)
+    cond (not (eqb (refusal bytes) 0)) (movesOutcome (refusal bytes) 0 0 out)
+    (cond (ltb (length out) 81) (movesOutcome 7 0 0 out)
     (listed (legalMoves (positionOf bytes)) out))
 
--- Referee: 0 or the number of the refusal; the value for the side to move, 1 True, 2 False, and 0 with a refusal. Nothing is lent to be written.
+-- Referee: 0 or the number of the refusal; the index, 0 always; the value for the side to move, 1 True, 2 False, and 0 with a refusal. Nothing is lent to be
+-- written.
 pub record RefereeOutcome : Type 0 where
   pub number : ℕ
+  pub index : ℕ
   pub value : ℕ
 
-abbrev pub refereeOutcome : ℕ → ℕ → RefereeOutcome
-refereeOutcome n v = record { number = n; value = v }
+abbrev pub refereeOutcome : ℕ → ℕ → ℕ → RefereeOutcome
+refereeOutcome n i v = record { number = n; index = i; value = v }
 
 -- Checks 10 and 16 after those of the record: a rule over 2, over nine empty cells in boards in play.
 unfoldable pub refereeCall : (bytes : List ℕ) (rule : ℕ) → RefereeOutcome
 refereeCall bytes rule =
-    cond (not (eqb (refusal bytes) 0)) (refereeOutcome (refusal bytes) 0)
-    (cond (ltb 2 rule) (refereeOutcome 10 0)
-    (cond (ltb 9 (openCells (positionOf bytes))) (refereeOutcome 16 0)
-    (refereeOutcome 0 (cond (recordValue rule bytes) 1 2))))
+    cond (not (eqb (refusal bytes) 0)) (refereeOutcome (refusal bytes) 0 0)
+    (cond (ltb 2 rule) (refereeOutcome 10 0 0)
+    (cond (ltb 9 (openCells (positionOf bytes))) (refereeOutcome 16 0 0)
+    (refereeOutcome 0 0 (cond (recordValue rule bytes) 1 2))))

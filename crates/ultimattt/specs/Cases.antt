@@ -41,13 +41,13 @@ pub record Cases : Type 0 where
   pub O-first : replayCall (record21 0xA00000000000000000000200000000000000000000) (0x40 ∷ 0x04 ∷ []) out21
       ≡ replayOutcome 0 0 (record21 0xA00200000000000000040200000000000000000000)
   -- ours: the referee refuses by 1, 10 and 16; D's value under each rule
-  pub short : refereeCall [] 0 ≡ refereeOutcome 1 0
-  pub E-rule-3 : refereeCall E 3 ≡ refereeOutcome 10 0
-  pub E-large : refereeCall E 2 ≡ refereeOutcome 16 0
-  pub W-large : refereeCall W 0 ≡ refereeOutcome 16 0
-  pub D-rule-0 : refereeCall D 0 ≡ refereeOutcome 0 2
-  pub D-rule-1 : refereeCall D 1 ≡ refereeOutcome 0 2
-  pub D-rule-2 : refereeCall D 2 ≡ refereeOutcome 0 1
+  pub short : refereeCall [] 0 ≡ refereeOutcome 1 0 0
+  pub E-rule-3 : refereeCall E 3 ≡ refereeOutcome 10 0 0
+  pub E-large : refereeCall E 2 ≡ refereeOutcome 16 0 0
+  pub W-large : refereeCall W 0 ≡ refereeOutcome 16 0 0
+  pub D-rule-0 : refereeCall D 0 ≡ refereeOutcome 0 0 2
+  pub D-rule-1 : refereeCall D 1 ≡ refereeOutcome 0 0 2
+  pub D-rule-2 : refereeCall D 2 ≡ refereeOutcome 0 0 1
 
 pub cases : Cases
 unfolding drawn finalValue hasLine state board boardStates gameState moveError play legalMoves replay bitAt positionOf positionRefusal refusal recordBit recordOf afterMoves replayCall movesCall openCells refereeCall backward valueFrom value valueOf

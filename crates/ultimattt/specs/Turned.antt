@@ -26,11 +26,11 @@ module _ (bytes moves out : List ℕ) where
   replay-answered e h = rw (e, le-ltb (length out) 21 h)
 
 module _ (bytes out : List ℕ) where
-  pub moves-refused : (n : ℕ) → n ≡ refusal bytes → (n ≡ 0 → ⊥) → movesOutcome n 0 out ≡ movesCall bytes out
+  pub moves-refused : (n : ℕ) → n ≡ refusal bytes → (n ≡ 0 → ⊥) → movesOutcome n 0 0 out ≡ movesCall bytes out
   unfolding movesCall
   moves-refused n e z = rw (e, ne-eqb (refusal bytes) 0 (λ q. z (rw e q)))
 
-  pub moves-short : refusal bytes ≡ 0 → length out < 81 → movesOutcome 7 0 out ≡ movesCall bytes out
+  pub moves-short : refusal bytes ≡ 0 → length out < 81 → movesOutcome 7 0 0 out ≡ movesCall bytes out
   unfolding movesCall
   moves-short e h = rw (e, lt-ltb (length out) 81 h)
 
@@ -39,22 +39,22 @@ module _ (bytes out : List ℕ) where
   moves-answered e h = rw (e, le-ltb (length out) 81 h)
 
 module _ (bytes : List ℕ) (rule : ℕ) where
-  pub referee-refused : (n : ℕ) → n ≡ refusal bytes → (n ≡ 0 → ⊥) → refereeOutcome n 0 ≡ refereeCall bytes rule
+  pub referee-refused : (n : ℕ) → n ≡ refusal bytes → (n ≡ 0 → ⊥) → refereeOutcome n 0 0 ≡ refereeCall bytes rule
   unfolding refereeCall
   referee-refused n e z = rw (← e, ne-eqb n 0 z)
 
   module _ (accepted : refusal bytes ≡ 0) where
-    pub referee-rule : 2 < rule → refereeOutcome 10 0 ≡ refereeCall bytes rule
+    pub referee-rule : 2 < rule → refereeOutcome 10 0 0 ≡ refereeCall bytes rule
     unfolding refereeCall
     referee-rule h = rw (accepted, lt-ltb 2 rule h)
 
     module _ (in-range : rule ≤ 2) where
-      pub referee-large : (n : ℕ) → n ≡ openCells (positionOf bytes) → 9 < n → refereeOutcome 16 0 ≡ refereeCall bytes rule
+      pub referee-large : (n : ℕ) → n ≡ openCells (positionOf bytes) → 9 < n → refereeOutcome 16 0 0 ≡ refereeCall bytes rule
       unfolding refereeCall
       referee-large n e h = rw (accepted, le-ltb 2 rule in-range, ← e, lt-ltb 9 n h)
 
       pub referee-answered : (n : ℕ) → n ≡ openCells (positionOf bytes) → n ≤ 9 → (v : Bool) → v ≡ recordValue rule bytes
-          → refereeOutcome 0 (cond v 1 2) ≡ refereeCall bytes rule
+          → refereeOutcome 0 0 (cond v 1 2) ≡ refereeCall bytes rule
       unfolding refereeCall
       referee-answered n e h v q = rw (accepted, le-ltb 2 rule in-range, ← e, le-ltb 9 n h, ← q)
 

@@ -86,5 +86,5 @@ writing-done ws out out′ n at w e p k =
     let all : legalMoves p ≡ l .done = l .rest ∙ ap (λ t. l .done ++ t) (e p k) ∙ append-nil (l .done) in
     record { count = l .count ∙ ap length (sym all); left = l .left ∙ ap (λ t. t ++ drop n out) (sym all) }
 
-pub written-listed : (moves out out′ : List ℕ) (n : ℕ) → Written moves out out′ n → movesOutcome 0 n out′ ≡ listed moves out
+pub written-listed : (moves out out′ : List ℕ) (n : ℕ) → Written moves out out′ n → movesOutcome 0 0 n out′ ≡ listed moves out
 written-listed moves out out′ n w = rw (w .left, w .count)

@@ -210,49 +210,55 @@ pub extern "C" fn uttt_replay(bytes: &[u8], moves: &[u8], out: &mut [u8]) -> Rep
     }
 }
 
-// The answer of legal moves as C has it: code is 0 or the refusal's number, count how many moves were written.
+// The answer of legal moves as C has it: code is 0 or the refusal's number, index 0, count how many moves were written.
 #[repr(C)]
 pub struct MovesAnswer {
     pub code: u32,
+    pub index: u64,
     pub count: u64,
 }
 
 #[no_mangle]
 pub extern "C" fn uttt_legal_moves(bytes: &[u8], out: &mut [u8]) -> MovesAnswer
-    ensures { λ r. ⌜ movesOutcome (r .code) (r .count) (now (out .exit)) ≡ movesCall (now (bytes .entry)) (now (out .entry)) ⌝ }
+    ensures { λ r. ⌜ movesOutcome (r .code) (r .index) (r .count) (now (out .exit)) ≡ movesCall (now (bytes .entry)) (now (out .entry)) ⌝ }
 {
     let answer = legal_moves(bytes, out);
     match answer {
         Listed::Count(n) => MovesAnswer {
             code: 0,
+            index: 0,
             count: n as u64,
         },
         Listed::Turned(n) => MovesAnswer {
             code: n as u32,
+            index: 0,
             count: 0,
         },
     }
 }
 
-// The answer of referee as C has it: code is 0 or the refusal's number; value is 1 for True, 2 for False, and 0 with a refusal.
+// The answer of referee as C has it: code is 0 or the refusal's number; index is 0; value is 1 for True, 2 for False, and 0 with a refusal.
 #[repr(C)]
 pub struct RefereeAnswer {
     pub code: u32,
+    pub index: u64,
     pub value: u32,
 }
 
 #[no_mangle]
 pub extern "C" fn uttt_referee(bytes: &[u8], rule: u64) -> RefereeAnswer
-    ensures { λ r. ⌜ refereeOutcome (r .code) (r .value) ≡ refereeCall (now (bytes .entry)) rule ⌝ }
+    ensures { λ r. ⌜ refereeOutcome (r .code) (r .index) (r .value) ≡ refereeCall (now (bytes .entry)) rule ⌝ }
 {
     let answer = referee(bytes, rule);
     match answer {
         Refereed::Value(v) => RefereeAnswer {
             code: 0,
+            index: 0,
             value: if v { 1 } else { 2 },
         },
         Refereed::Declined(n) => RefereeAnswer {
             code: n as u32,
+            index: 0,
             value: 0,
         },
     }

@@ -13,6 +13,8 @@ pub struct Replayed {
 pub struct Moves {
     /// 0, or the refusal's number.
     pub code: u32,
+    /// 0.
+    pub index: u64,
     pub count: u64,
 }
 
@@ -20,6 +22,8 @@ pub struct Moves {
 pub struct Refereed {
     /// 0, or the refusal's number.
     pub code: u32,
+    /// 0.
+    pub index: u64,
     /// 1 True, 2 False; 0 with a refusal.
     pub value: u32,
 }

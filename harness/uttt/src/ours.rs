@@ -35,7 +35,10 @@ fn moves(record: &[u8], output: usize, pattern: u8) -> Result<Answer, String> {
     let answered = unsafe { ffi::uttt_legal_moves(record.as_ptr(), record.len(), lent.pointer(), output) };
     same("record", &record_before, record)?;
     if answered.code != 0 {
-        return refusal(&lent, answered.code, 0, answered.count);
+        return refusal(&lent, answered.code, answered.index, answered.count);
+    }
+    if answered.index != 0 {
+        return Err(format!("answered with index {}", answered.index));
     }
     Ok(Answer::Moves(lent.written(answered.count as usize)?.to_vec()))
 }
@@ -62,6 +65,9 @@ fn referee(record: &[u8], rule: u64) -> Result<Answer, String> {
     // SAFETY: pointer and length belong together.
     let answered = unsafe { ffi::uttt_referee(record.as_ptr(), record.len(), rule) };
     same("record", &record_before, record)?;
+    if answered.index != 0 {
+        return Err(format!("answered with index {}", answered.index));
+    }
     match (answered.code, answered.value) {
         (0, 1) => Ok(Answer::Value(true)),
         (0, 2) => Ok(Answer::Value(false)),

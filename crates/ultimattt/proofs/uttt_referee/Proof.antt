@@ -20,10 +20,10 @@ cast-t13 : tie.Need-cast-t13
 cast-t13 c = search needs
 
 returns : tie.Need-returns
-returns c = ap (λ v. refereeOutcome 0 (cond v 1 2)) (sym (c .if1 .taken)) ∙ sym (ap refereed (c .before .before .answer .given .1)) ∙ c .before .before .before .before .referee .ensures
+returns c = ap (λ v. refereeOutcome 0 0 (cond v 1 2)) (sym (c .if1 .taken)) ∙ sym (ap refereed (c .before .before .answer .given .1)) ∙ c .before .before .before .before .referee .ensures
 
 returns-2 : tie.Need-returns-2
-returns-2 c = ap (λ v. refereeOutcome 0 (cond v 1 2)) (sym (c .if1 .left)) ∙ sym (ap refereed (c .before .before .answer .given .1)) ∙ c .before .before .before .before .referee .ensures
+returns-2 c = ap (λ v. refereeOutcome 0 0 (cond v 1 2)) (sym (c .if1 .left)) ∙ sym (ap refereed (c .before .before .answer .given .1)) ∙ c .before .before .before .before .referee .ensures
 
 returns-3 : tie.Need-returns-3
 returns-3 c = sym (ap refereed (c .before .answer2 .given .1)) ∙ c .before .before .before .referee .ensures
