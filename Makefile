@@ -11,12 +11,17 @@ CALLS ?= 200000
 CARGO = cargo
 BUILD = $(CARGO) build --manifest-path harness/Cargo.toml --release --offline --locked -j $(JOBS)
 
-.PHONY: test library uttt answers oracle-test compare
+.PHONY: test judge library uttt answers oracle-test compare
 
 # Every crate proved from nothing, every must-fail edit refused, every program's output as stored. Nothing is printed after rt's last line.
 test:
 	@rt fmt --check
 	@rt ci
+
+# The program judge, proved, built and run on record W under rule 0: target/bin/judge
+judge:
+	rt check judge
+	target/bin/judge < crates/judge/stdin
 
 # The proved static library: target/staticlib/libultimattt.a
 library:

@@ -1,4 +1,3 @@
 pub mod Asks
 pub mod Storing
 pub mod Turns
-pub mod Witness

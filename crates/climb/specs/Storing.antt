@@ -1,16 +1,16 @@
 -- A node stored anew, and one node up, in what holds a state of the search. Rests on words and prover's Stands.
 use mathlib.Core.Path.{_≡_, refl, ap, sym, _∙_}
-use mathlib.Core.List.{List, [], _∷_}
+use mathlib.Core.List.{List, []}
 use mathlib.Core.Bool.{Bool, true, false, not, cond, _||_}
-use Prim.Native.Nat.{ℕ, zero, suc, _+_, _≤_, _<_, min}
+use Prim.Native.Nat.{ℕ, _+_, _≤_, _<_, min}
 use native.Mathlib.Omega.{arith}
 use lib.Dec.{eqb}
-use lib.ListN.{length, getD}
+use lib.ListN.{getD}
 use borrow.Author.Tests.{ne-eqb}
 use Rattle.rules.specs.Rules.{Position}
 use Rattle.machine.specs.Game.{Game}
 use Rattle.machine.specs.Tree.{Node, u32-max, none, size, leastDelta, sumPhi, solved, proofOf, disproofOf}
-use Rattle.machine.specs.Machine.{Ancestor, State, state, renumber, store}
+use Rattle.machine.specs.Machine.{State, state, renumber, store}
 use Rattle.machine.specs.Numbers.{open-of}
 use Rattle.plain.specs.Plain.{game}
 use Rattle.words.specs.Packed.{View, view, bit, packed, andIn, packed-read}
@@ -25,15 +25,8 @@ use Rattle.node_pool.specs.declared.NodeID.{NodeID}
 use Rattle.node_pool.specs.declared.Pool.{Pool}
 use Rattle.node_pool.specs.Contracts.{FreedAll}
 use Rattle.prover.specs.declared.Prover.{Prover}
-use Rattle.prover.specs.Stands.{Positions, Stands}
+use Rattle.prover.specs.Stands.{Positions, Stands, positions-same}
 use Rattle.climb.specs.Asks.{zeros, Counted, Ascending, Stored}
-
--- The line's positions are the same where the current node's is; and without it they are those of the nodes above
-pub positions-same : (ps : List ℕ) (d : ℕ) (up : List (Ancestor Position)) (n m : Node Position) → n .pos ≡ m .pos → Positions ps d up n → Positions ps d up m
-positions-same ps zero [] n m e h = rw e at h
-positions-same ps zero (a ∷ up) n m e h = absurd h
-positions-same ps (suc d) [] n m e h = absurd h
-positions-same ps (suc d) (a ∷ up) n m e h = (rw e at (h .0), h .1)
 
 -- The flag and says that the other side is to move
 flag-is : (b : Bool) → eqb (bit (not b)) 1 ≡ not b

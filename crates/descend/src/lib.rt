@@ -11,6 +11,8 @@ ghost use Rattle.words.specs.Words.{PACKED, word, Slot};
 ghost use Rattle.prover.specs.Stands.{Searching};
 ghost use Rattle.descend.specs.Contracts.{Lists, Selectable, Selects, Unsolved, GoesDown, Descended};
 use node_pool::NodeID;
+use node_pool::PLIES;
+use positions::POSITIONS;
 use prover::Prover;
 
 // What select reads of a child: its delta, and the next one listed.
@@ -52,8 +54,8 @@ struct Current {
 fn down(
     table: &[u8; 512],
     words: &[u32],
-    path: &mut [u32; 82],
-    positions: &mut [u16; 1968],
+    path: &mut [u32; PLIES],
+    positions: &mut [u16; POSITIONS],
     depth: usize,
     id: NodeID,
 ) -> Current
@@ -73,8 +75,8 @@ fn down(
 pub fn descend(
     table: &[u8; 512],
     words: &[u32],
-    path: &mut [u32; 82],
-    positions: &mut [u16; 1968],
+    path: &mut [u32; PLIES],
+    positions: &mut [u16; POSITIONS],
     x: Prover,
 ) -> Prover
     requires { ⌜ (now table ≡ lineTable) × ((g : Searching (now words) (now path) (now positions) x) × (solved (root (g .at)) ≡ false)) ⌝ }

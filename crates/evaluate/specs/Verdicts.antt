@@ -8,7 +8,7 @@ use borrow.Author.Tests.{eqb-true}
 use lib.Dec.{eqb}
 use Rattle.rules.specs.Rules.{Player, Position, gameState, legalMoves, finalValue}
 use Rattle.rules.specs.LegalMoves.{finished-none}
-use Rattle.machine.specs.Machine.{Verdict, True, False, Unknown}
+use Rattle.machine.specs.Machine.{True, False, Unknown}
 use Rattle.evaluate.specs.Final.{positionVerdict}
 
 module _ (rule : ℕ) (root : Player) (p : Position) where

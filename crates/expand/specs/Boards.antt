@@ -1,5 +1,5 @@
 -- The children on one board, cell by cell: what the loops over nine cells ask for, and what holds at each cell. Rests on Progress and on the game's part in children.
-use mathlib.Core.Path.{_≡_, refl, ap, sym, _∙_, subst}
+use mathlib.Core.Path.{_≡_, refl, ap, sym, _∙_}
 use mathlib.Core.List.{List, _∷_}
 use mathlib.Core.Logic.{_⊎_, inl, inr}
 use mathlib.Core.Bool.{Bool, true, false, not}
@@ -25,7 +25,7 @@ use Rattle.children.specs.Leaves.{leaf-bounds}
 use Rattle.children.specs.Children.{child-of, and-after, open-value}
 use Rattle.expand.specs.declared.Made.{Made}
 use Rattle.expand.specs.declared.Parent.{Parent}
-use Rattle.expand.specs.Progress.{Leaf, gameAt, Progress, progress-on, progress-ended, Addable, Added, Adds}
+use Rattle.expand.specs.Progress.{Leaf, gameAt, Progress, progress-on, progress-ended, Addable, Adds}
 
 -- What the code reads of the leaf's position, and what it hands on to all children
 pub record ParentOf (l : Leaf) (o : Outer) (p : Parent) : Type 0 where

@@ -1,22 +1,22 @@
 -- How expand does step 4 from start to end: no child is made, all are made, they are the leaf's own. And how the machine's laws give what it asks for. Rests on
 -- Targets and Expandable.
 use mathlib.Core.Path.{_≡_, refl, ap, sym, _∙_, subst}
-use mathlib.Core.List.{List, [], _∷_, List·Memᴰ}
-use mathlib.Core.Bool.{Bool, true, false, cond, not}
-use Prim.Native.Nat.{ℕ, zero, suc, _+_, _*_, _-_, _/_, _%_, _≤_, _<_, min}
+use mathlib.Core.List.{List, []}
+use mathlib.Core.Bool.{Bool, true, false, not}
+use Prim.Native.Nat.{ℕ, _+_, _*_, _-_, _≤_, _<_, min}
 use native.Mathlib.Omega.{arith}
 use lib.Dec.{eqb}
 use lib.ListN.{length, getD}
 use borrow.Author.Tests.{eq-eqb}
-use Rattle.rules.specs.Rules.{Player, Position, answers, moveOf, boardStates, state, gameState, keep, playable, everyMove, legalMoves, count}
+use Rattle.rules.specs.Rules.{Player, Position, gameState, legalMoves, count}
 use Rattle.rules.specs.Record.{sideBit}
 use Rattle.rules.specs.Legal.{legal}
-use Rattle.rules.specs.LegalMoves.{in-legal}
+use Rattle.rules.specs.LegalMoves.{in-legal, moves-few}
 use Rattle.game.specs.Words.{Holds}
 use Rattle.game.specs.Cursor.{movesFrom, moves-all}
 use Rattle.machine.specs.Game.{Game}
 use Rattle.machine.specs.Tree.{Node, u32-max, Children, none, size, leastDelta, sumPhi}
-use Rattle.machine.specs.Machine.{Ancestor, State, live, make, children, opened, expand}
+use Rattle.machine.specs.Machine.{State, live, make, children, opened, expand}
 use Rattle.machine.specs.Numbers.{leaf-of}
 use Rattle.machine.specs.Place.{AtUnsolved}
 use Rattle.machine.specs.Descent.{depth-left}
@@ -30,7 +30,7 @@ use Rattle.words.specs.Steps.{line-root}
 use Rattle.words.specs.Store.{holding-opened}
 use Rattle.words.specs.States.{holds-expanded}
 use Rattle.prover.specs.declared.Prover.{Prover}
-use Rattle.prover.specs.Stands.{Positions, Stands, here}
+use Rattle.prover.specs.Stands.{Stands, here, positions-same}
 use Rattle.children.specs.declared.Outer.{Outer}
 use Rattle.children.specs.Scalars.{OuterOf}
 use Rattle.expand.specs.declared.Made.{Made}
@@ -44,13 +44,6 @@ use Rattle.expand.specs.Expandable.{counter-max, Expandable, Expansion, 
 flag-of : (b : Bool) → eqb (bit b) 1 ≡ b
 flag-of true = refl
 flag-of false = refl
-
--- A node with the same position may stand for the current one
-positions-same : (ps : List ℕ) (d : ℕ) (up : List (Ancestor Position)) (n m : Node Position) → n .pos ≡ m .pos → Positions ps d up n → Positions ps d up m
-positions-same ps zero [] n m e h = subst (λ (p : Position). Holds p ps 0) e h
-positions-same ps zero (a ∷ up) n m e h = absurd h
-positions-same ps (suc d) [] n m e h = absurd h
-positions-same ps (suc d) (a ∷ up) n m e h = (subst (λ (p : Position). Holds p ps (suc d * 24)) e (h .0), h .1)
 
 module _ (w path ps : List ℕ) (x : Prover) (rule root : ℕ) (g : Expandable w path ps x rule root) where
   abbrev G : Game
@@ -184,22 +177,6 @@ module _ (w path ps : List ℕ) (x : Prover) (rule root : ℕ) (g : Expandable w
 -- At most 81 children are made, and no more than there are legal moves
 pub children-moves : (rule : ℕ) (root : Player) (p : Position) → size (children (game rule root) p) ≤ length (legalMoves p)
 children-moves rule root p = omega (arith, children-ok (game rule root) (lawful rule root) p .most)
-
-kept-few : (f : ℕ → Bool) (g : ℕ → ℕ) (i n : ℕ) → length (keep f (answers g i n)) ≤ n
-kept-few f g i zero = omega arith
-kept-few f g i (suc n) = go (f (g i)) (kept-few f g (suc i) n)
-  where
-    go : (t : Bool) → length (keep f (answers g (suc i) n)) ≤ n → length (cond t (g i ∷ keep f (answers g (suc i) n)) (keep f (answers g (suc i) n))) ≤ suc n
-    go true h = omega arith
-    go false h = omega arith
-
-moves-few : (p : Position) → length (legalMoves p) ≤ 81
-unfolding legalMoves
-moves-few p = go (eqb (state (boardStates (p .cells))) 0)
-  where
-    go : (t : Bool) → length (cond t (keep (playable p (boardStates (p .cells))) everyMove) []) ≤ 81
-    go true = kept-few (playable p (boardStates (p .cells))) (λ i. moveOf (i / 9) (i % 9)) 0 81
-    go false = omega arith
 
 pub children-few : (rule : ℕ) (root : Player) (p : Position) → size (children (game rule root) p) ≤ 81
 children-few rule root p = omega (arith, children-moves rule root p, moves-few p)

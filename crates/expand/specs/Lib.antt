@@ -1,4 +1,5 @@
 pub mod Progress
+pub mod Opened
 pub mod Boards
 pub mod Targets
 pub mod Expandable

@@ -2,8 +2,8 @@
 -- plain, words and node_pool.
 use mathlib.Core.Path.{_≡_, refl, ap, sym, _∙_, subst}
 use mathlib.Core.List.{List, [], _∷_}
-use mathlib.Core.Bool.{Bool, true, false, cond}
-use Prim.Native.Nat.{ℕ, suc, _+_, _*_, _-_, _≤_, _<_, min}
+use mathlib.Core.Bool.{Bool, true, false}
+use Prim.Native.Nat.{ℕ, suc, _+_, _-_, _≤_, _<_, min}
 use native.Mathlib.Omega.{arith}
 use lib.Dec.{eqb}
 use lib.ListN.{length}
@@ -18,13 +18,13 @@ use Rattle.plain.specs.Laws.{lawful}
 use Rattle.prove.specs.Numbers.{verdictNumber, Pair}
 use Rattle.prove.specs.declared.Bounds.{Bounds}
 use Rattle.words.specs.Packed.{pack, bit, view, packed}
-use Rattle.words.specs.Words.{NONE, capacity, Filled, Beyond, beyond-trans}
+use Rattle.words.specs.Words.{capacity, Beyond, beyond-trans}
 use Rattle.words.specs.Free.{Spare}
 use Rattle.words.specs.Freeing.{plies}
 use Rattle.words.specs.Pool.{Holding, holding-asks, holding-few}
 use Rattle.words.specs.Making.{holding-made}
 use Rattle.node_pool.specs.declared.AllocedNode.{AllocedNode}
-use Rattle.node_pool.specs.Contracts.{Alloced, Allocs}
+use Rattle.node_pool.specs.Contracts.{Alloced}
 use Rattle.children.specs.Leaves.{LeafBounds}
 use Rattle.expand.specs.declared.Made.{Made}
 

@@ -1,13 +1,13 @@
 -- The children on the boards that the target leaves: one board, or all that are not done. Rests on Boards.
-use mathlib.Core.Path.{_≡_, refl, ap, sym, _∙_}
+use mathlib.Core.Path.{_≡_, refl, ap, _∙_}
 use mathlib.Core.List.{List, []}
 use mathlib.Core.Logic.{_⊎_, inl, inr}
-use mathlib.Core.Bool.{Bool, true, false, _||_, or-true}
+use mathlib.Core.Bool.{Bool, true, false, _||_}
 use Prim.Native.Nat.{ℕ, _+_, _*_, _≤_, _<_}
 use native.Mathlib.Omega.{arith}
 use lib.Dec.{eqb}
-use borrow.Author.Tests.{eq-eqb, eqb-true}
-use Rattle.rules.specs.Rules.{Position, boardStates, boardOf, leads, moveError}
+use borrow.Author.Tests.{eqb-true}
+use Rattle.rules.specs.Rules.{boardOf, leads, moveError}
 use Rattle.rules.specs.Boards.{code-states}
 use Rattle.rules.specs.Legal.{legal}
 use Rattle.game.specs.Masks.{hasBit}

@@ -3,21 +3,28 @@
 
 ghost use mathlib.Core.Path.{_≡_};
 ghost use mathlib.Core.List.{[]};
-ghost use Prim.Native.Nat.{_+_, _*_, _≤_, _<_};
+ghost use mathlib.Core.Bool.{cond};
+ghost use Prim.Native.Nat.{_+_, _*_, _≤_, _<_, min};
+ghost use lib.Dec.{eqb};
 ghost use Rattle.machine.specs.Place.{pool-max};
 ghost use Rattle.words.specs.Packed.{expandedIn};
 ghost use Rattle.words.specs.Words.{PACKED, word, Slot};
 ghost use Rattle.prove.specs.Numbers.{verdict};
 ghost use Rattle.game.specs.Lines.{lineTable};
 ghost use Rattle.game.specs.Cursor.{movesFrom};
+ghost use Rattle.machine.specs.Machine.{Unknown};
 ghost use Rattle.expand.specs.Progress.{Progress, Addable, Adds};
+ghost use Rattle.expand.specs.Opened.{counting, OpenAdds};
 ghost use Rattle.expand.specs.Boards.{OpenBoard, EndingBoard, Playable};
 ghost use Rattle.expand.specs.Targets.{Unmade};
 ghost use Rattle.expand.specs.Expandable.{counter-max, NoneMade, counted, attached, Expandable, Expands};
 use children::Outer;
 use game::Move;
 use node_pool::NodeID;
+use node_pool::PLIES;
 use node_pool::Pool;
+use positions::POSITIONS;
+use prove::Bounds;
 use prove::Evaluation;
 use prover::Prover;
 
@@ -80,18 +87,83 @@ fn add_child(words: &mut [u32], m: Made, mv: Move, value: Evaluation, and: bool)
     }
 }
 
+// What changes while open children are made: what is free in the pool, how many there are, and the last made.
+pub struct Opened {
+    pub free: NodeID,
+    pub used: u32,
+    pub made: u32,
+    pub last: NodeID,
+}
+
+// One open child more, listed first; its numbers are left to `open_numbers`.
+fn add_open(words: &mut [u32], t: Opened, mv: Move, and: bool) -> Opened
+    requires { ⌜ ((m : Made) × Addable (now words) (counting t m) (mv .0) Unknown and) ⌝ }
+    ensures { λ r. ⌜ OpenAdds (now (words .entry)) t (mv .0) and (now (words .exit)) r ⌝ }
+    ensures { λ r. ⌜ r .made ≡ t .made + 1 ⌝ }
+{
+    let free = t.free;
+    let sibling = t.last;
+    let packed = node_pool::pack(Evaluation::Unknown, and, mv);
+    let bounds = Bounds::unity();
+    let node = node_pool::alloc(words, free, t.used, bounds, packed, sibling);
+    let rest = node.free;
+    let child = node.id;
+    Opened {
+        free: rest,
+        used: node.used,
+        made: t.made + 1,
+        last: child,
+    }
+}
+
+// The least delta, with so many open children more.
+fn open_phi(phi: u32, more: u32) -> u32
+    ensures { λ r. ⌜ r ≡ cond (eqb more 0) phi (min phi 1) ⌝ }
+{
+    if more == 0 {
+        return phi;
+    }
+    prove::least(phi, 1)
+}
+
+// The numbers of the children that there were with those of the open ones.
+fn open_numbers(m: Made, t: Opened) -> Made
+    requires { ⌜ m .made ≤ t .made ⌝ }
+    ensures { λ r. ⌜ r ≡ counting t m ⌝ }
+{
+    let free = t.free;
+    let last = t.last;
+    let more = t.made - m.made;
+    Made {
+        free,
+        used: t.used,
+        made: t.made,
+        last,
+        phi: open_phi(m.phi, more),
+        delta: prove::held_sum(m.delta, more),
+        ended: m.ended,
+    }
+}
+
 // The children on board b, where no move can end the game: all are open.
 fn open_board(words: &mut [u32], taken: u16, b: usize, and: bool, start: Made) -> Made
     requires { ⌜ OpenBoard (now words) taken b and start ⌝ }
     ensures { λ r. ⌜ ((g : OpenBoard (now (words .entry)) taken b and start) → Progress (g .leaf) (now (words .exit)) r (movesFrom (g .leaf .node .pos) (b * 9 + 9))) ⌝ }
 {
-    let mut m = start;
+    let free = start.free;
+    let last = start.last;
+    let mut t = Opened {
+        free,
+        used: start.used,
+        made: start.made,
+        last,
+    };
     for c in 0..9 {
         if !game::has(taken, c) {
-            m = add_child(words, m, Move::from_coords(b, c), Evaluation::Unknown, and);
+            t = add_open(words, t, Move::from_coords(b, c), and);
         }
     }
-    m
+    open_numbers(start, t)
 }
 
 // The children on board b, where a move may end the game: each is evaluated, up to the first with delta 0.
@@ -124,7 +196,7 @@ fn ending_board(
 fn board_children(
     table: &[u8; 512],
     words: &mut [u32],
-    positions: &[u16; 1968],
+    positions: &[u16; POSITIONS],
     o: Outer,
     p: Parent,
     b: usize,
@@ -146,7 +218,7 @@ fn board_children(
 fn free_children(
     table: &[u8; 512],
     words: &mut [u32],
-    positions: &[u16; 1968],
+    positions: &[u16; POSITIONS],
     o: Outer,
     p: Parent,
     start: Made,
@@ -169,7 +241,7 @@ fn free_children(
 fn make_children(
     table: &[u8; 512],
     words: &mut [u32],
-    positions: &[u16; 1968],
+    positions: &[u16; POSITIONS],
     o: Outer,
     p: Parent,
     start: Made,
@@ -225,8 +297,8 @@ fn count(x: Prover, m: Made) -> Prover
 pub fn expand(
     table: &[u8; 512],
     words: &mut [u32],
-    path: &[u32; 82],
-    positions: &[u16; 1968],
+    path: &[u32; PLIES],
+    positions: &[u16; POSITIONS],
     x: Prover,
     rule: u8,
     root: usize,

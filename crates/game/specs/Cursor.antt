@@ -1,12 +1,12 @@
 -- The legal moves from a place of the board on: what is left to a cursor that goes over the 81 cells in move order. Rests on the rules and Errors.
-use Prim.Native.Nat.{ℕ, zero, suc, _+_, _*_, _-_, _/_, _%_, _<_, _≤_}
+use Prim.Native.Nat.{ℕ, suc, _+_, _*_, _-_, _/_, _%_, _<_, _≤_}
 use mathlib.Core.Path.{_≡_, refl, ap, sym, _∙_}
 use mathlib.Core.Bool.{Bool, true, false, cond, not, _&&_}
 use mathlib.Core.List.{List, [], _∷_}
 use native.Mathlib.Omega.{arith}
 use native.Mathlib.Numerals.{add-one}
 use lib.Dec.{eqb}
-use Rattle.rules.specs.Rules.{Position, code, answers, state, boardStates, gameState, moveOf, boardOf, cellOf, leads, keep, playable, legalMoves}
+use Rattle.rules.specs.Rules.{Position, code, answers, boardStates, gameState, moveOf, leads, keep, playable, legalMoves}
 use Rattle.game.specs.Words.{Holds}
 use Rattle.game.specs.Errors.{cellError}
 use Rattle.game.specs.declared.cursor.Step.{Step}

@@ -1,10 +1,10 @@
 -- The five errors of a move, in the two parts in which the code looks for them. Rests on the rules.
-use Prim.Native.Nat.{ℕ, _+_, _*_, _<_}
-use mathlib.Core.Path.{_≡_, sym, ap, _∙_}
-use mathlib.Core.Bool.{Bool, true, false, cond, not, _&&_}
+use Prim.Native.Nat.{ℕ, _+_, _*_}
+use mathlib.Core.Path.{_≡_}
+use mathlib.Core.Bool.{true, false, cond, not, _&&_}
 use borrow.Author.Tests.{ltb-true}
 use lib.Dec.{eqb, ltb}
-use Rattle.rules.specs.Rules.{Position, code, state, board, boardStates, gameState, boardOf, cellOf, leads, moveError}
+use Rattle.rules.specs.Rules.{Position, code, board, boardStates, gameState, boardOf, cellOf, leads, moveError}
 use Rattle.rules.specs.Tests.{both-true}
 use Rattle.rules.specs.Boards.{code-states}
 

@@ -1,7 +1,7 @@
 -- A legal move made on a position's words: what is stored, and that the words then hold the position after the move. Rests on the rules' laws, Masks, Lines and Words.
-use Prim.Native.Nat.{ℕ, zero, suc, _+_, _*_, _-_, _^_, _<_, _≤_}
+use Prim.Native.Nat.{ℕ, _+_, _*_, _-_, _^_, _<_, _≤_}
 use mathlib.Core.Path.{_≡_, refl, ap, sym, _∙_}
-use mathlib.Core.Bool.{Bool, true, false, cond, not, _&&_, Bool·not-not}
+use mathlib.Core.Bool.{Bool, true, false, cond, not, Bool·not-not}
 use mathlib.Core.List.{List, [], _∷_}
 use mathlib.Core.Logic.{_⊎_, inl, inr}
 use native.Mathlib.Omega.{arith}
@@ -10,7 +10,7 @@ use borrow.Author.Tests.{eq-eqb, ne-eqb, lt-ltb, ltb-true}
 use lib.ListN.{length, getD, set, length-set}
 use lib.Seq.{getD-set-same, getD-set-other}
 use lib.Dec.{eqb, ltb}
-use Rattle.rules.specs.Rules.{Player, Position, other, mark, code, all, any, hasLine, state, board, boardStates, gameState, boardOf, cellOf, cellAt, moveError, play}
+use Rattle.rules.specs.Rules.{Player, Position, other, mark, code, all, any, state, board, boardStates, boardOf, cellOf, moveError, play}
 use Rattle.rules.specs.Rules.Player.{X, O}
 use Rattle.rules.specs.Record.{sideBit}
 use Rattle.rules.specs.Boards.{length-board, length-states, code-board, code-states}

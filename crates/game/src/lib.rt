@@ -5,7 +5,7 @@ ghost use mathlib.Core.Bool.{cond, not, _&&_, _||_};
 ghost use Prim.Native.Nat.{ℕ, _+_, _-_, _*_, _^_, _<_, _≤_};
 ghost use lib.ListN.{length, getD};
 ghost use lib.Dec.{eqb, ltb};
-ghost use Rattle.rules.specs.Rules.{Position, mark, board, boardStates, gameState, boardOf, cellOf, moveOf, leads, cellAt, moveError, code};
+ghost use Rattle.rules.specs.Rules.{Position, board, boardStates, gameState, boardOf, cellOf, moveOf, leads, moveError, code};
 ghost use Rattle.game.specs.Numbers.{playerNumber, cellNumber, stateNumber, resultNumber};
 ghost use Rattle.game.specs.Masks.{hasBit, maskOf, nonzero};
 ghost use Rattle.game.specs.Lines.{lineIn, lineTable};

@@ -30,7 +30,8 @@ const SIBLING: usize = 4;
 // The packed word of a freed node: the flag free alone.
 const FREED: u32 = 134217728;
 
-const NO_NODE: u32 = 4294967295;
+// The number that is no node's.
+pub const NO_NODE: u32 = 4294967295;
 
 // One a ply and the root.
 pub const PLIES: usize = 82;

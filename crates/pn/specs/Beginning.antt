@@ -1,15 +1,15 @@
 -- The start of a search in a pool of any words. Rests on words' Making, prover's Stands and children's leaves.
-use mathlib.Core.Path.{_≡_, refl, ap, sym, _∙_, subst}
-use mathlib.Core.Bool.{Bool, true, false, not}
+use mathlib.Core.Path.{_≡_, refl, ap, sym, _∙_}
+use mathlib.Core.Bool.{false, not}
 use mathlib.Core.List.{List, []}
-use Prim.Native.Nat.{ℕ, _+_, _*_, _<_, _≤_}
+use Prim.Native.Nat.{ℕ, _<_, _≤_}
 use native.Mathlib.Omega.{arith}
-use lib.ListN.{length, getD, set, length-set}
-use lib.Seq.{getD-set-same}
+use lib.ListN.{length, getD}
 use Rattle.rules.specs.Rules.{Position}
 use Rattle.rules.specs.Record.{Accepted}
 use Rattle.game.specs.Words as game-words
 use Rattle.machine.specs.Tree.{leaf}
+use Rattle.machine.specs.Place.{pool-max}
 use Rattle.machine.specs.Machine.{Verdict, start}
 use Rattle.plain.specs.Plain.{gameOf}
 use Rattle.plain.specs.Laws.{root-mine}
@@ -29,7 +29,7 @@ pub record Startable (g w : List ℕ) : Type 0 where
   pub holds : game-words.Holds pos g 0
   pub accepted : Accepted pos
   pub some : 0 < capacity w
-  pub few : capacity w ≤ 16777216
+  pub few : capacity w ≤ pool-max
 
 -- the machine's first state stands there, and no word past the capacity is changed
 pub record Begun (rule : ℕ) (p : Position) (w v path ps : List ℕ) (r : Prover) : Type 0 where
@@ -41,7 +41,7 @@ pub record Begun (rule : ℕ) (p : Position) (w v path ps : List ℕ) (r : Prove
 pub root-and : (rule : ℕ) (p : Position) → false ≡ view (gameOf rule p) .and p
 root-and rule p = ap not (sym (root-mine rule p))
 
-module _ (rule : ℕ) (p : Position) (w : List ℕ) (some : 0 < capacity w) (few : capacity w ≤ 16777216) where
+module _ (rule : ℕ) (p : Position) (w : List ℕ) (some : 0 < capacity w) (few : capacity w ≤ pool-max) where
   -- the state of a search that begins: the root alone is allocated
   abbrev first : NodeID → ℕ → Prover
   first free used =

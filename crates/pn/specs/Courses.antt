@@ -1,7 +1,7 @@
 -- How a search of the plain machine goes on from a state that stands in the pool, and how it ends. Rests on the machine's runs.
-use mathlib.Core.Path.{_≡_, refl, ap, sym, _∙_}
-use mathlib.Core.Bool.{Bool, true, false}
-use Prim.Native.Nat.{ℕ, zero, suc, _+_, _-_, _≤_, _<_}
+use mathlib.Core.Path.{_≡_, ap, sym, _∙_}
+use mathlib.Core.Bool.{true, false}
+use Prim.Native.Nat.{ℕ, zero, suc, _-_, _≤_}
 use native.Mathlib.Omega.{arith}
 use Rattle.machine.specs.Game.{Game}
 use Rattle.machine.specs.Tree.{solved}

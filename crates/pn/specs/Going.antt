@@ -1,16 +1,17 @@
 -- A search of a position between two rounds, as its code keeps it, and its result. Rests on prover's Stands, Courses, Ticks and Root.
-use mathlib.Core.Path.{_≡_, refl, ap, sym, _∙_, subst}
-use mathlib.Core.Bool.{Bool, true, false, cond, _||_}
+use mathlib.Core.Path.{_≡_, ap, sym, _∙_}
+use mathlib.Core.Bool.{true, false, cond, _||_}
 use mathlib.Core.List.{List}
-use Prim.Native.Nat.{ℕ, zero, suc, _+_, _*_, _-_, _≤_, _<_}
+use Prim.Native.Nat.{ℕ, _+_, _*_, _≤_, _<_}
 use native.Mathlib.Omega.{arith}
 use lib.Dec.{eqb}
-use lib.ListN.{length, getD}
-use Rattle.rules.specs.Rules.{Player, Position, count}
+use lib.ListN.{getD}
+use Rattle.rules.specs.Rules.{Position, count}
 use Rattle.machine.specs.Tree.{solved, proofOf, disproofOf}
 use Rattle.machine.specs.Machine as machine
+use Rattle.machine.specs.Place.{pool-max}
 use Rattle.machine.specs.Rounds.{StateOk}
-use Rattle.plain.specs.Plain.{game, gameOf, searchOf}
+use Rattle.plain.specs.Plain.{gameOf, searchOf}
 use Rattle.plain.specs.Laws.{root-mine}
 use Rattle.prove.specs.Numbers.{verdict}
 use Rattle.words.specs.Packed.{view}
@@ -53,7 +54,7 @@ fields-alike v v′ p p′ d d′ a a′ f f′ o o′ n n′ e e′ c c′ ev e
 -- the ranges that keep counts within their words
 pub record Ranges (w : List ℕ) (s : Settings) : Type 0 where
   pub some : 0 < capacity w
-  pub few : capacity w ≤ 16777216
+  pub few : capacity w ≤ pool-max
   pub interval-some : 0 < s .interval
   pub budget-most : s .budget ≤ 1000000000000
   pub rule-few : s .rule < 3

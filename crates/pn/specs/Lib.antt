@@ -7,4 +7,4 @@ pub mod Beginning
 pub mod Rounding
 pub mod Steps
 pub mod Stepping
-pub mod Witness
+pub mod Searches

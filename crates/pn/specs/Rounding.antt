@@ -1,23 +1,22 @@
 -- A round of a search: what stands after each step, and how the search goes on from there. Rests on Going, the machine's rounds and the contracts of the steps.
 use mathlib.Core.Path.{_≡_, refl, ap, sym, _∙_, subst}
-use mathlib.Core.Bool.{Bool, true, false, cond, _&&_, and-false, true≢false}
+use mathlib.Core.Bool.{Bool, true, false, and-false, true≢false}
 use mathlib.Core.List.{List, [], _∷_}
-use Prim.Native.Nat.{ℕ, zero, suc, _+_, _*_, _-_, _/_, _%_, _≤_, _<_}
+use Prim.Native.Nat.{ℕ, suc, _+_, _*_, _-_, _/_, _%_, _≤_, _<_}
 use native.Mathlib.Omega.{arith}
 use native.Mathlib.Decide.{ℕ-discrete, decLt}
-use borrow.Author.Tests.{lt-ltb, le-ltb, ltb-false}
+use borrow.Author.Tests.{lt-ltb, le-ltb}
 use lib.Dec.{eqb, ltb}
 use lib.ListN.{length}
-use Rattle.rules.specs.Rules.{Player, Position, state, boardStates, gameState, keep, everyMove, playable, legalMoves, count}
+use Rattle.rules.specs.Rules.{Player, Position, state, gameState, legalMoves, count}
 use Rattle.rules.specs.Legal.{legal}
-use Rattle.rules.specs.LegalMoves.{in-legal}
+use Rattle.rules.specs.LegalMoves.{in-legal, moves-few}
 use Rattle.machine.specs.Game.{Game}
-use Rattle.machine.specs.Tree.{Node, Children, solved, leastDelta, sumPhi, u32-max}
+use Rattle.machine.specs.Tree.{Node, Children, solved}
 use Rattle.machine.specs.Machine as machine
 use Rattle.machine.specs.Numbers.{OpenLeaf, leaf-of}
-use Rattle.machine.specs.Place.{AtUnsolved, pool-max}
 use Rattle.machine.specs.Descent.{Found}
-use Rattle.machine.specs.Rounds.{StateOk, found-leaf, leaf-state, round-ok, expand-ok, expand-counts}
+use Rattle.machine.specs.Rounds.{StateOk, found-leaf, leaf-state, round-ok}
 use Rattle.machine.specs.Climb.{climb-stay, climb-root, climb-next}
 use Rattle.machine.specs.Standard.{standard-sane}
 use Rattle.plain.specs.Plain.{game, gameOf}
@@ -49,22 +48,12 @@ pub shortness : (w path ps : List ℕ) (x : Prover) (g : AtLeaf w path ps x) (fr
 unfolding machine.live
 shortness w path ps x g free cap moves ef ec em = rw (ef, ec, em, g .stands .tree .allocated-is, g .stands .tree .freed-is)
 
--- at most 81 moves are legal
-keep-few : (f : ℕ → Bool) (l : List ℕ) → length (keep f l) ≤ length l
-keep-few f [] = omega arith
-keep-few f (m ∷ l) = go (f m) (keep-few f l)
-  where
-    go : (b : Bool) → length (keep f l) ≤ length l → length (cond b (m ∷ keep f l) (keep f l)) ≤ suc (length l)
-    go true h = omega arith
-    go false h = omega arith
-
-pub moves-few : (p : Position) → length (legalMoves p) ≤ 81
-unfolding legalMoves
-moves-few p = go (eqb (state (boardStates (p .cells))) 0)
-  where
-    go : (b : Bool) → length (cond b (keep (playable p (boardStates (p .cells))) everyMove) []) ≤ 81
-    go true = keep-few (playable p (boardStates (p .cells))) everyMove
-    go false = omega arith
+-- with 81 nodes free it is not short
+pub enough : (w path ps : List ℕ) (x : Prover) (g : AtLeaf w path ps x) (free cap : ℕ) → free ≡ cap - (x .pool .allocated - x .pool .freed) → cap ≡ capacity w → 81 ≤ free
+    → false ≡ ltb (capacity w - machine.live (g .at .counts)) (length (legalMoves (g .at .node .pos)))
+enough w path ps x g free cap ef ec l =
+    let moves = length (legalMoves (g .at .node .pos)) in
+    sym (le-ltb free moves (omega (arith, l, moves-few (g .at .node .pos)))) ∙ shortness w path ps x g free cap moves ef ec refl
 
 -- step 5 allocates nothing
 climb-allocated : (G : Game) (up : List (machine.Ancestor (G .Pos))) (c : machine.Counts) (n : Node (G .Pos)) (ks : Children (G .Pos)) → machine.climb G up c n ks .counts .allocated ≡ c .allocated

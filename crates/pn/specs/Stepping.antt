@@ -1,8 +1,8 @@
 -- What a step and a round of a search ask for and come to. Rests on Rounding and Steps.
-use mathlib.Core.Path.{_≡_, refl, ap, sym, _∙_, subst}
+use mathlib.Core.Path.{_≡_, refl, ap, _∙_}
 use mathlib.Core.Bool.{Bool, true, false, cond, _||_}
 use mathlib.Core.List.{List}
-use Prim.Native.Nat.{ℕ, suc, _+_, _*_, _-_, _≤_, _<_}
+use Prim.Native.Nat.{ℕ, suc, _-_, _<_}
 use native.Mathlib.Omega.{arith}
 use lib.Dec.{eqb}
 use lib.ListN.{length, getD}
@@ -10,7 +10,7 @@ use Rattle.rules.specs.Rules.{Position}
 use Rattle.rules.specs.Record.{sideBit}
 use Rattle.machine.specs.Tree.{solved}
 use Rattle.machine.specs.Machine as machine
-use Rattle.plain.specs.Plain.{game, gameOf}
+use Rattle.plain.specs.Plain.{gameOf}
 use Rattle.words.specs.Words.{PHI, DELTA, word, capacity, Beyond}
 use Rattle.prover.specs.declared.Prover.{Prover}
 use Rattle.prover.specs.Stands.{Stands}

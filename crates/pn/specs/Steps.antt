@@ -1,8 +1,8 @@
 -- What each step of a round asks for, from what stands after the one before. Rests on Rounding and the steps' contracts.
-use mathlib.Core.Path.{_≡_, refl, ap, sym, _∙_}
-use mathlib.Core.Bool.{Bool, true, false}
+use mathlib.Core.Path.{_≡_, ap, sym}
+use mathlib.Core.Bool.{Bool, false}
 use mathlib.Core.List.{List}
-use Prim.Native.Nat.{ℕ, _+_, _*_, _-_, _≤_, _<_}
+use Prim.Native.Nat.{ℕ, _-_, _≤_}
 use native.Mathlib.Omega.{arith}
 use borrow.Author.Tests.{ltb-false}
 use lib.Dec.{ltb}
@@ -15,7 +15,7 @@ use Rattle.machine.specs.Game.{sequences}
 use Rattle.machine.specs.Machine as machine
 use Rattle.machine.specs.Descent.{depth-left}
 use Rattle.machine.specs.Rounds.{expand-ok, expand-counts}
-use Rattle.plain.specs.Plain.{game, gameOf}
+use Rattle.plain.specs.Plain.{gameOf}
 use Rattle.plain.specs.Laws.{lawful}
 use Rattle.words.specs.Words.{capacity}
 use Rattle.words.specs.Steps.{line-root}

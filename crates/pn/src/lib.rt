@@ -9,27 +9,30 @@ ghost use lib.Dec.{eqb};
 ghost use Rattle.rules.specs.Rules.{Position};
 ghost use Rattle.rules.specs.Record.{Accepted};
 ghost use Rattle.game.specs.Lines.{lineTable};
-ghost use Rattle.game.specs.Words.{Holds, Held};
+ghost use Rattle.game.specs.Words.{Holds};
 ghost use Rattle.machine.specs.Machine.{verdictOf};
 ghost use Rattle.plain.specs.Plain.{searchOf};
 ghost use Rattle.prove.specs.Numbers.{verdict};
-ghost use Rattle.words.specs.Words.{capacity, Slot};
 ghost use Rattle.words.specs.Freeing.{plies};
 ghost use Rattle.pn.specs.Going.{Going, machineSettings, resultOf};
 ghost use Rattle.pn.specs.Beginning.{Startable, Begun};
 ghost use Rattle.pn.specs.Ticked.{Ticked};
 ghost use Rattle.pn.specs.Rounding.{AtLeaf, Short};
 ghost use Rattle.pn.specs.Stepping.{Steppable, Unsolved, Stepped};
+ghost use Rattle.pn.specs.Searches.{Searchable, Searched};
 use game::Game;
 use game::Move;
+use node_pool::NO_NODE;
 use node_pool::NodeID;
+use node_pool::PLIES;
 use node_pool::Pool;
+use positions::POSITIONS;
 use prove::Bounds;
 use prove::Evaluation;
 use prover::Prover;
 
-// The number that is no node's.
-const NO_NODE: u32 = 4294967295;
+// No position has more legal moves.
+const MOST_MOVES: u64 = 81;
 
 // What a search is given beside its position and its pool.
 pub struct Settings {
@@ -64,8 +67,8 @@ pub struct SearchResult {
 fn begin(
     table: &[u8; 512],
     words: &mut [u32],
-    path: &mut [u32; 82],
-    positions: &mut [u16; 1968],
+    path: &mut [u32; PLIES],
+    positions: &mut [u16; POSITIONS],
     g: Game,
     rule: u64,
 ) -> Prover
@@ -152,7 +155,7 @@ fn cause_of(proof: u32, disproof: u32, cause: u8) -> u8
 }
 
 // The result of a search that has stopped.
-fn finish(words: &[u32], path: &[u32; 82], s: Settings, x: Running) -> SearchResult
+fn finish(words: &[u32], path: &[u32; PLIES], s: Settings, x: Running) -> SearchResult
     requires { ⌜ (length (now path) ≡ 82) × ((p : Position) × (ps : List ℕ) × Going p s (now words) (now path) ps x) × (x .stop ≡ true) ⌝ }
     ensures { λ r. ⌜ ((p : Position) (ps : List ℕ) → Going p s (now (words .entry)) (now (path .entry)) ps x → resultOf r ≡ searchOf (s .rule) (machineSettings (now (words .entry)) s) p) ⌝ }
 {
@@ -175,23 +178,27 @@ fn finish(words: &[u32], path: &[u32; 82], s: Settings, x: Running) -> SearchRes
 }
 
 // Step 3: whether fewer nodes are free than the leaf has legal moves.
-fn is_short(words: &[u32], positions: &[u16; 1968], x: Prover) -> bool
+fn is_short(words: &[u32], positions: &[u16; POSITIONS], x: Prover) -> bool
     requires { ⌜ ((path : List ℕ) × AtLeaf (now words) path (now positions) x) ⌝ }
     ensures { λ r. ⌜ ((path : List ℕ) → Short (now (words .entry)) path (now (positions .entry)) x r) ⌝ }
 {
-    let depth = x.depth;
     let pool = x.pool;
+    let free = pool.free_nodes(node_pool::capacity(words) as u64);
+    if free >= MOST_MOVES {
+        return false;
+    }
+    let depth = x.depth;
     let moves = children::count_moves(positions, depth * 24);
-    pool.free_nodes(node_pool::capacity(words) as u64) < moves as u64
+    free < moves as u64
 }
 
 // Steps 2 to 6: down to a leaf; if it is short of nodes the search stops; expand, climb, count.
 fn round(
     table: &[u8; 512],
     words: &mut [u32],
-    path: &mut [u32; 82],
-    positions: &mut [u16; 1968],
-    todo: &mut [u32; 82],
+    path: &mut [u32; PLIES],
+    positions: &mut [u16; POSITIONS],
+    todo: &mut [u32; PLIES],
     x: Running,
     s: Settings,
     root: usize,
@@ -219,9 +226,9 @@ fn round(
 fn step(
     table: &[u8; 512],
     words: &mut [u32],
-    path: &mut [u32; 82],
-    positions: &mut [u16; 1968],
-    todo: &mut [u32; 82],
+    path: &mut [u32; PLIES],
+    positions: &mut [u16; POSITIONS],
+    todo: &mut [u32; PLIES],
     x: Running,
     s: Settings,
     root: usize,
@@ -253,4 +260,37 @@ fn step(
         };
     }
     round(table, words, path, positions, todo, x, s, root)
+}
+
+// The search of an accepted position in a pool of any words.
+pub fn search(words: &mut [u32], g: Game, s: Settings) -> SearchResult
+    requires { ⌜ Searchable (g .words) (now words) s ⌝ }
+    ensures { λ r. ⌜ ((p : Position) → Holds p (g .words) 0 → Accepted p → Searched p s (now (words .entry)) (now (words .exit)) r) ⌝ }
+{
+    let table = game::line_table();
+    let mut path: [u32; PLIES] = [0; PLIES];
+    let mut positions: [u16; POSITIONS] = [0; POSITIONS];
+    let mut todo: [u32; PLIES] = [0; PLIES];
+    let root_words = g.words;
+    let root = game::side_to_move(&root_words, 0);
+    let first = begin(&table, words, &mut path, &mut positions, g, s.rule);
+    let mut x = Running {
+        prover: first,
+        tick: s.interval,
+        stop: false,
+        cause: 0,
+    };
+    while !x.stop {
+        x = step(
+            &table,
+            words,
+            &mut path,
+            &mut positions,
+            &mut todo,
+            x,
+            s,
+            root,
+        );
+    }
+    finish(words, &path, s, x)
 }

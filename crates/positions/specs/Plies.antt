@@ -1,13 +1,13 @@
 -- Positions in places of 24 words: that words which agree hold the same position, and what a copy and a push leave. Rests on the rules and game's Words and Moves.
-use Prim.Native.Nat.{ℕ, zero, suc, _+_, _*_, _-_, _<_, _≤_}
-use mathlib.Core.Path.{_≡_, refl, ap, sym, _∙_}
+use Prim.Native.Nat.{ℕ, _+_, _*_, _<_, _≤_}
+use mathlib.Core.Path.{_≡_, refl, _∙_}
 use mathlib.Core.List.{List}
-use mathlib.Core.Logic.{_⊎_, inl, inr}
+use mathlib.Core.Logic.{inl}
 use native.Mathlib.Omega.{arith}
-use native.Mathlib.Decide.{decLt, ℕ-discrete}
+use native.Mathlib.Decide.{ℕ-discrete}
 use lib.ListN.{length, getD, set, length-set}
 use lib.Seq.{getD-set-same, getD-set-other}
-use Rattle.rules.specs.Rules.{Player, Position, moveError, play}
+use Rattle.rules.specs.Rules.{Position, moveError, play}
 use Rattle.rules.specs.Record.{sideBit}
 use Rattle.game.specs.Words.{Holds, sideBit-lt}
 use Rattle.game.specs.Moves.{Movable, Moved}

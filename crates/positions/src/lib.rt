@@ -1,9 +1,9 @@
 // The positions of the line that a search follows, a ply a place of 24 words in one flat array: the root's at ply 0.
 
 ghost use mathlib.Core.Path.{_≡_};
-ghost use Prim.Native.Nat.{ℕ, _+_, _*_, _<_, _≤_};
-ghost use lib.ListN.{length, getD};
-ghost use Rattle.rules.specs.Rules.{Position, moveError};
+ghost use Prim.Native.Nat.{ℕ, _+_, _*_, _<_};
+ghost use lib.ListN.{length};
+ghost use Rattle.rules.specs.Rules.{Position};
 ghost use Rattle.game.specs.Lines.{lineTable};
 ghost use Rattle.game.specs.Words.{Holds};
 ghost use Rattle.game.specs.Moves.{Movable};
@@ -11,8 +11,11 @@ ghost use Rattle.positions.specs.Plies.{Copied, Pushed};
 use game::Game;
 use game::Move;
 
+// 82 positions, one a ply and the root, of 24 words each.
+pub const POSITIONS: usize = 1968;
+
 // Copies the words of ply d to the next.
-fn copy_ply(positions: &mut [u16; 1968], d: usize)
+fn copy_ply(positions: &mut [u16; POSITIONS], d: usize)
     requires { ⌜ (length (now positions) ≡ 1968) × (d < 81) ⌝ }
     ensures { λ _. ⌜ Copied d (now (positions .entry)) (now (positions .exit)) ⌝ }
 {
@@ -23,7 +26,7 @@ fn copy_ply(positions: &mut [u16; 1968], d: usize)
 }
 
 // The position at ply d with a legal move made, at the next ply.
-pub fn push(table: &[u8; 512], positions: &mut [u16; 1968], d: usize, m: Move)
+pub fn push(table: &[u8; 512], positions: &mut [u16; POSITIONS], d: usize, m: Move)
     requires { ⌜ (now table ≡ lineTable) × (length (now positions) ≡ 1968) × (d < 81) × Movable (now positions) (d * 24) (m .0) ⌝ }
     ensures { λ _. ⌜ Pushed d (m .0) (now (positions .entry)) (now (positions .exit)) ⌝ }
 {
@@ -32,7 +35,7 @@ pub fn push(table: &[u8; 512], positions: &mut [u16; 1968], d: usize, m: Move)
 }
 
 // The root's position at ply 0.
-pub fn start(positions: &mut [u16; 1968], g: Game)
+pub fn start(positions: &mut [u16; POSITIONS], g: Game)
     requires { ⌜ length (now positions) ≡ 1968 ⌝ }
     ensures { λ _. ⌜ (length (now (positions .exit)) ≡ 1968) × ((p : Position) → Holds p (g .words) 0 → Holds p (now (positions .exit)) 0) ⌝ }
 {

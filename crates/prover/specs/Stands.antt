@@ -1,13 +1,12 @@
 -- The plain machine's state as a search's code keeps it: the tree in the pool's words, the nodes of the line on the path, their positions in places of 24
 -- words, the counts. Rests on plain, words and game.
-use mathlib.Core.Path.{_≡_, refl, ap, sym, _∙_, subst}
+use mathlib.Core.Path.{_≡_}
 use mathlib.Core.List.{List, [], _∷_}
-use mathlib.Core.Bool.{Bool, true, false}
 use Prim.Native.Nat.{ℕ, zero, suc, _+_, _*_, _≤_, _<_}
 use native.Mathlib.Omega.{arith}
 use lib.ListN.{length, getD}
 use Rattle.rules.specs.Rules.{Player, Position, count}
-use Rattle.machine.specs.Tree.{Node, Children}
+use Rattle.machine.specs.Tree.{Node}
 use Rattle.machine.specs.Machine.{Ancestor, State}
 use Rattle.machine.specs.Rounds.{StateOk}
 use Rattle.plain.specs.Plain.{game}
@@ -51,6 +50,13 @@ here ps zero [] n h = h
 here ps zero (a ∷ up) n h = absurd h
 here ps (suc e) [] n h = absurd h
 here ps (suc e) (a ∷ up) n h = h .0
+
+-- a node with the same position may stand for the current one
+pub positions-same : (ps : List ℕ) (d : ℕ) (up : List (Ancestor Position)) (n m : Node Position) → n .pos ≡ m .pos → Positions ps d up n → Positions ps d up m
+positions-same ps zero [] n m e h = rw e at h
+positions-same ps zero (a ∷ up) n m e h = absurd h
+positions-same ps (suc d) [] n m e h = absurd h
+positions-same ps (suc d) (a ∷ up) n m e h = (rw e at (h .0), h .1)
 
 -- positions that agree up to place d are the same line
 pub positions-kept : (ps qs : List ℕ) (d k : ℕ) (up : List (Ancestor Position)) (n : Node Position) → length qs ≡ length ps → d * 24 + 24 ≤ k → ((i : ℕ) → i < k → getD qs i 0 ≡ getD ps i 0)

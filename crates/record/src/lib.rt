@@ -6,7 +6,7 @@ ghost use mathlib.Core.List.{List, _∷_, _++_};
 ghost use Prim.Native.Nat.{ℕ, _+_, _*_, _/_, _%_, _^_, _<_, _≤_};
 ghost use lib.ListN.{length, getD, drop};
 ghost use Rattle.rules.specs.Rules.{Position, board, state};
-ghost use Rattle.rules.specs.Record.{bitAt, number, sideBit, positionOf, positionRefusal, refusal, recordBit, recordOf};
+ghost use Rattle.rules.specs.Record.{bitAt, number, positionOf, positionRefusal, refusal, recordBit, recordOf};
 ghost use Rattle.game.specs.Lines.{lineIn, lineTable};
 ghost use Rattle.game.specs.Words.{Holds, Held};
 ghost use Rattle.record.specs.Reading.{Masks, Putting, Whole, Reads, Adding, Checking, targetRefusal, sideMask};

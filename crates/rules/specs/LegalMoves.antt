@@ -1,5 +1,5 @@
 -- The list of legal moves: it holds a move exactly if playing it is none of the five errors, it ascends, a finished position has none,
--- and an accepted, unfinished one has some. Rests on Boards, States, Legal and Checks.
+-- an accepted, unfinished one has some, and none has over 81. Rests on Boards, States, Legal and Checks.
 use mathlib.Core.Bool.{Bool, true, false, cond, _&&_, or-true}
 use mathlib.Core.Path.{_≡_, refl, sym, ap, _∙_}
 use mathlib.Core.List.{List, [], _∷_, List·Memᴰ, List·Memᴰ·head, List·Memᴰ·tail, List·Memᴰ·not-nil, Memᴰ·cast}
@@ -166,3 +166,20 @@ module _ (p : Position) (g : gameState p ≡ 0) where
 
 pub unfinished-some : (p : Position) → Accepted p → gameState p ≡ 0 → (m : ℕ) × List·Memᴰ m (legalMoves p)
 unfinished-some p a g = let h = passes p (a .passes) in unfinished-move p g (h .target-range) (h .target-open)
+
+-- at most 81 moves are legal
+keep-few : (f : ℕ → Bool) (l : List ℕ) → length (keep f l) ≤ length l
+keep-few f [] = omega arith
+keep-few f (m ∷ l) = go (f m) (keep-few f l)
+  where
+    go : (b : Bool) → length (keep f l) ≤ length l → length (cond b (m ∷ keep f l) (keep f l)) ≤ suc (length l)
+    go true h = omega arith
+    go false h = omega arith
+
+pub moves-few : (p : Position) → length (legalMoves p) ≤ 81
+unfolding legalMoves
+moves-few p = go (eqb (state (boardStates (p .cells))) 0)
+  where
+    go : (b : Bool) → length (cond b (keep (playable p (boardStates (p .cells))) everyMove) []) ≤ 81
+    go true = keep-few (playable p (boardStates (p .cells))) everyMove
+    go false = omega arith

@@ -1,16 +1,19 @@
--- The cases of document 01 that are proved from the definitions, in one lemma, with ours. Rests on Calls, and on plain's
--- Cases for the records E, W and D.
+-- The cases of document 01 that are proved from the definitions, in one lemma, with ours. Rests on Calls and Searches, and on plain's
+-- Cases for the records E, W and D and for the plain machine's results.
 use mathlib.Core.Path.{_≡_, refl}
 use mathlib.Core.List.{List, [], _∷_, _++_}
-use Prim.Native.Nat.{ℕ}
-use lib.ListN.{length, getD, replicate}
+use Prim.Native.Nat.{ℕ, _*_}
+use lib.ListN.{getD, replicate}
 use Rattle.rules.specs.Rules.{hasLine, state, board, boardStates, gameState, moveError, play, legalMoves, replay, drawn, finalValue}
 use Rattle.rules.specs.Record.{bitAt, positionOf, positionRefusal, refusal, recordBit, recordOf}
 use Rattle.machine.specs.Game.{backward, valueFrom, value}
-use Rattle.plain.specs.Plain.{valueOf}
-use Rattle.plain.specs.Cases.{record21, E, W, D}
+use Rattle.machine.specs.Machine.{Result, True, False, Unknown}
+use Rattle.plain.specs.Plain.{valueOf, plainSearch}
+use Rattle.plain.specs.Cases as plain-cases
+use Rattle.plain.specs.Cases.{record21, E, W, D, fields, starred}
 use Rattle.referee.specs.OpenCells.{openCells}
-use Rattle.ultimattt.specs.Calls.{replayOutcome, movesOutcome, refereeOutcome, afterMoves, replayCall, movesCall, refereeCall}
+use Rattle.ultimattt.specs.Calls.{replayOutcome, refereeOutcome, afterMoves, replayCall, movesCall, refereeCall}
+use Rattle.ultimattt.specs.Searches.{Limits, limits, settings, rangeRefusal, searchRefusal, Refused, Answered, searchCall, fullOf, Draw, Full, Turned, fullCall}
 
 -- An output of 21 bytes, and one of 81.
 abbrev pub out21 : List ℕ
@@ -18,6 +21,30 @@ out21 = replicate 21 0
 
 abbrev pub out81 : List ℕ
 out81 = replicate 81 0
+
+-- A pool of so many nodes, in words; the program judge's limit and interval, with a budget.
+abbrev pub pool : ℕ → ℕ
+pool n = n * 5
+
+abbrev pub judging : ℕ → Limits
+judging budget = limits 18446744073709551615 budget 10000
+
+-- A case that names no rule: the answer under each of the three.
+abbrev pub UnderEach : List ℕ → ℕ → Limits → Result → Type 0
+UnderEach bytes words L r = (searchCall bytes words 0 L ≡ Answered r) × (searchCall bytes words 1 L ≡ Answered r) × (searchCall bytes words 2 L ≡ Answered r)
+
+answered : (bytes : List ℕ) (words rule : ℕ) (L : Limits) (r : Result) → searchRefusal bytes words rule L ≡ 0 → plainSearch rule (settings words L) bytes ≡ r → searchCall bytes words rule L ≡ Answered r
+unfolding searchCall
+answered bytes words rule L r e q = rw (e, q)
+
+under-each : (bytes : List ℕ) (words : ℕ) (L : Limits) (r : Result) → searchRefusal bytes words 0 L ≡ 0 → searchRefusal bytes words 1 L ≡ 0 → searchRefusal bytes words 2 L ≡ 0
+    → plain-cases.UnderEach (settings words L) bytes r → UnderEach bytes words L r
+under-each bytes words L r e0 e1 e2 h = (answered bytes words 0 L r e0 (h .0), answered bytes words 1 L r e1 (h .1), answered bytes words 2 L r e2 (h .2))
+
+full : (bytes : List ℕ) (words : ℕ) (L : Limits) (r s : Result) → searchRefusal bytes words 0 L ≡ 0 → plainSearch 1 (settings words L) bytes ≡ r → plainSearch 2 (settings words L) bytes ≡ s
+    → fullCall bytes words L ≡ Full (fullOf (r .verdict) (s .verdict)) r s
+unfolding fullCall
+full bytes words L r s e q p = rw (e, q, p)
 
 -- Each field is a case; moves and records are hexadecimal in document 01.
 pub record Cases : Type 0 where
@@ -33,8 +60,24 @@ pub record Cases : Type 0 where
   -- first byte 7A is refused by 3; FA is accepted
   pub E-7A : refusal (0x7A ∷ replicate 20 0) ≡ 3
   pub E-FA : refusal (0xFA ∷ replicate 20 0) ≡ 0
+  -- E with budget 0; with budget 1, and a pool of 82 or of 81 nodes
+  pub E-spent : UnderEach E (pool 3276) (judging 0) (fields Unknown 1 1 1 0 0 0 0 1)
+  pub E-fits : UnderEach E (pool 82) (judging 1) (fields Unknown 1 81 82 0 0 0 1 1)
+  pub E-short : UnderEach E (pool 81) (judging 1) (fields Unknown 1 1 1 0 0 0 0 2)
+  -- W with budget 1, and a pool of 6 or of 5 nodes
+  pub W-won : UnderEach W (pool 6) (judging 1) (fields True 0 2147483648 2 1 1 0 1 0)
+  pub W-short : UnderEach W (pool 5) (judging 1) (fields Unknown 1 1 1 0 0 0 0 2)
+  -- D under rules 0, 1 and 2; its full verdict, a draw
+  pub D-0-False : searchCall D (pool 3276) 0 (judging 100000) ≡ Answered (fields False 2147483648 0 1 0 0 0 0 0)
+  pub D-1-False : searchCall D (pool 3276) 1 (judging 100000) ≡ Answered (fields False 2147483648 0 1 0 0 0 0 0)
+  pub D-2-True : searchCall D (pool 3276) 2 (judging 100000) ≡ Answered (fields True 0 2147483648 1 0 0 0 0 0)
+  pub D-full : fullCall D (pool 3276) (judging 100000) ≡ Full Draw (fields False 2147483648 0 1 0 0 0 0 0) (fields True 0 2147483648 1 0 0 0 0 0)
   -- D with target 0 is refused by 6
-  pub D-0 : refusal (record21 0x02B400AC0054001500054000A8002A000A80054000) ≡ 6
+  pub D-target-0 : searchCall (record21 0x02B400AC0054001500054000A8002A000A80054000) (pool 3276) 0 (judging 100000) ≡ Refused 6
+  -- ours: no pool comes before a rule over 2; full verdict has search's checks
+  pub no-pool : searchCall E 4 3 (judging 0) ≡ Refused 8
+  pub rule-3 : searchCall E 5 3 (judging 0) ≡ Refused 10
+  pub full-no-pool : fullCall E 4 (judging 0) ≡ Turned 8
   -- ours: W with 22, the move that ends the game: the reply's target is set by the same rule, here the board of that move, done, so free choice
   pub W-22 : replayCall W (0x22 ∷ []) out21 ≡ replayOutcome 0 0 (record21 0xFAA000A8002A051500054000000000000000000000)
   -- ours: a replay that begins with O to move, on E with 44
@@ -50,7 +93,7 @@ pub record Cases : Type 0 where
   pub D-rule-2 : refereeCall D 2 ≡ refereeOutcome 0 0 1
 
 pub cases : Cases
-unfolding drawn finalValue hasLine state board boardStates gameState moveError play legalMoves replay bitAt positionOf positionRefusal refusal recordBit recordOf afterMoves replayCall movesCall openCells refereeCall backward valueFrom value valueOf
+unfolding drawn finalValue hasLine state board boardStates gameState moveError play legalMoves replay bitAt positionOf positionRefusal refusal recordBit recordOf afterMoves replayCall movesCall openCells refereeCall backward valueFrom value valueOf rangeRefusal searchRefusal searchCall fullOf fullCall
 cases = record {
   E-count = refl;
   E-first = refl;
@@ -61,7 +104,19 @@ cases = record {
   E-09 = refl;
   E-7A = refl;
   E-FA = refl;
-  D-0 = refl;
+  E-spent = under-each E (pool 3276) (judging 0) _ refl refl refl (starred .E-spent);
+  E-fits = under-each E (pool 82) (judging 1) _ refl refl refl (starred .E-fits);
+  E-short = under-each E (pool 81) (judging 1) _ refl refl refl (starred .E-short);
+  W-won = under-each W (pool 6) (judging 1) _ refl refl refl (starred .W-won);
+  W-short = under-each W (pool 5) (judging 1) _ refl refl refl (starred .W-short);
+  D-0-False = answered D (pool 3276) 0 (judging 100000) _ refl (starred .D-rule0);
+  D-1-False = answered D (pool 3276) 1 (judging 100000) _ refl (starred .D-rule1);
+  D-2-True = answered D (pool 3276) 2 (judging 100000) _ refl (starred .D-rule2);
+  D-full = full D (pool 3276) (judging 100000) _ _ refl (starred .D-rule1) (starred .D-rule2);
+  D-target-0 = refl;
+  no-pool = refl;
+  rule-3 = refl;
+  full-no-pool = refl;
   W-22 = refl;
   O-first = refl;
   short = refl;

@@ -7,3 +7,5 @@ pub mod Cases
 pub mod Searches
 pub mod ThirdCondition
 pub mod TwoSearches
+pub mod SearchAnswers
+pub mod Exports

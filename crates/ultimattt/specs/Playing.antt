@@ -1,15 +1,13 @@
 -- Moves made one after the other by the code, against the rules' replay: what the loop has made so far, and its end. Rests on the rules, game's Words and Moves.
 use mathlib.Core.Path.{_≡_, refl, ap, sym, subst, _∙_}
-use mathlib.Core.Bool.{true, false}
 use mathlib.Core.List.{List, [], _∷_}
-use Prim.Native.Nat.{ℕ, suc, _+_, _-_, _<_, _≤_}
+use Prim.Native.Nat.{ℕ, suc, _+_, _<_, _≤_}
 use native.Mathlib.Numerals.{add-one}
 use native.Mathlib.Omega.{arith}
-use borrow.Author.Tests.{eq-eqb, ne-eqb}
-use lib.Dec.{eqb}
+use borrow.Author.Tests.{ne-eqb}
 use lib.ListN.{length, getD, drop}
 use lib.Seq.{drop-cons, drop-length}
-use Rattle.rules.specs.Rules.{Position, Replayed, moveError, play, replay}
+use Rattle.rules.specs.Rules.{Position, moveError, play, replay}
 use Rattle.rules.specs.Rules.Replayed.{Reached, BadMove}
 use Rattle.game.specs.Numbers.{errorNumber, resultNumber, err-number}
 use Rattle.game.specs.declared.MoveResult.{MoveResult}

@@ -1,9 +1,9 @@
 -- What search and full verdict answer and what they leave in the pool, as functions of what comes in. The checks come in the order of the table under
 -- 'Turned back'. Rests on the record's checks and on the plain machine of a record.
 use mathlib.Core.Path.{_≡_}
-use mathlib.Core.Bool.{Bool, true, false, cond, not, _&&_}
+use mathlib.Core.Bool.{Bool, cond, not, _&&_}
 use mathlib.Core.List.{List}
-use Prim.Native.Nat.{ℕ, _*_, _/_}
+use Prim.Native.Nat.{ℕ, zero, suc, _*_, _/_}
 use lib.Dec.{eqb, ltb, leb}
 use lib.ListN.{length, drop}
 use Rattle.rules.specs.Record.{refusal}
@@ -27,6 +27,9 @@ rules = 3
 abbrev pub Limits : Type 0
 Limits = record { limit : ℕ; budget : ℕ; interval : ℕ }
 
+abbrev pub limits : (limit budget interval : ℕ) → Limits
+limits limit budget interval = record { limit = limit; budget = budget; interval = interval }
+
 -- A pool's capacity in nodes, from its length in words, five a node.
 abbrev pub nodes : ℕ → ℕ
 nodes words = words / 5
@@ -39,25 +42,25 @@ settings words L = record { pool = nodes words; limit = L .limit; budget = L .bu
 abbrev pub inRange : Limits → Bool
 inRange L = ltb 0 (L .interval) && leb (L .interval) intervalMost && leb (L .budget) budgetMost
 
+-- Checks 8, 9 and 10: no node in the pool, too many, a number out of its range; or 0.
+unfoldable pub rangeRefusal : (nodes rule : ℕ) → Limits → ℕ
+rangeRefusal n rule L = cond (ltb n 1) 8 (cond (ltb poolMost n) 9 (cond (not (ltb rule rules && inRange L)) 10 0))
+
 -- The number of the first check that turns a search back, or 0.
 unfoldable pub searchRefusal : (bytes : List ℕ) (words rule : ℕ) → Limits → ℕ
-searchRefusal bytes words rule L =
-    cond (not (eqb (refusal bytes) 0)) (refusal bytes)
-    (cond (ltb (nodes words) 1) 8
-    (cond (ltb poolMost (nodes words)) 9
-    (cond (not (ltb rule rules && inRange L)) 10 0)))
+searchRefusal bytes words rule L = cond (not (eqb (refusal bytes) 0)) (refusal bytes) (rangeRefusal (nodes words) rule L)
 
 -- A search is refused, or answered with the plain machine's result.
 pub data Searched : Type 0 where
   Refused : ℕ → Searched
   Answered : Result → Searched
 
+abbrev pub answerTo : ℕ → Result → Searched
+answerTo zero r = Answered r
+answerTo (suc n) r = Refused (suc n)
+
 unfoldable pub searchCall : (bytes : List ℕ) (words rule : ℕ) → Limits → Searched
-searchCall bytes words rule L =
-    elim (eqb (searchRefusal bytes words rule L) 0) [
-      | true ↦ Answered (plainSearch rule (settings words L) bytes)
-      | false ↦ Refused (searchRefusal bytes words rule L)
-    ]
+searchCall bytes words rule L = answerTo (searchRefusal bytes words rule L) (plainSearch rule (settings words L) bytes)
 
 -- The pool's words afterwards: untouched if it was refused; otherwise those past the capacity are.
 abbrev pub Untouched : List ℕ → List ℕ → Type 0
@@ -85,14 +88,12 @@ pub data Judged : Type 0 where
   Turned : ℕ → Judged
   Full : FullVerdict → Result → Result → Judged
 
+abbrev pub judgedAs : ℕ → Result → Result → Judged
+judgedAs zero first second = Full (fullOf (first .verdict) (second .verdict)) first second
+judgedAs (suc n) first second = Turned (suc n)
+
 unfoldable pub fullCall : (bytes : List ℕ) (words : ℕ) → Limits → Judged
-fullCall bytes words L =
-    let first = plainSearch 1 (settings words L) bytes in
-    let second = plainSearch 2 (settings words L) bytes in
-    elim (eqb (searchRefusal bytes words 0 L) 0) [
-      | true ↦ Full (fullOf (first .verdict) (second .verdict)) first second
-      | false ↦ Turned (searchRefusal bytes words 0 L)
-    ]
+fullCall bytes words L = judgedAs (searchRefusal bytes words 0 L) (plainSearch 1 (settings words L) bytes) (plainSearch 2 (settings words L) bytes)
 
 abbrev pub PoolAfterFull : Judged → List ℕ → List ℕ → Type 0
 PoolAfterFull (Turned n) before after = after ≡ before

@@ -1,5 +1,5 @@
 -- The calls by the check that decides: refused by the record, by a short output, a rule or a large ending, or answered. Rests on Calls.
-use mathlib.Core.Path.{_≡_, sym}
+use mathlib.Core.Path.{_≡_}
 use mathlib.Core.Bool.{Bool, cond}
 use mathlib.Core.List.{List, _++_}
 use Prim.Native.Nat.{ℕ, _<_, _≤_}

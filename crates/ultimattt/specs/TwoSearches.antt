@@ -1,20 +1,19 @@
 -- Two accepted searches of one record meet the third condition. Rests on ThirdCondition and on the machine's theorem, as plain states it of records.
 use mathlib.Core.Path.{_≡_, refl}
-use mathlib.Core.Bool.{Bool, true, false, cond, not, _&&_}
+use mathlib.Core.Bool.{true, cond, not, _&&_}
 use mathlib.Core.List.{List}
 use mathlib.Core.Logic.{_↔_}
-use Prim.Native.Nat.{ℕ, zero, suc, _≤_, _<_}
+use Prim.Native.Nat.{ℕ, zero, suc, _<_}
 use native.Mathlib.Omega.{arith}
-use borrow.Author.Tests.{eqb-true, ltb-false, le-ltb}
+use borrow.Author.Tests.{ltb-false, le-ltb}
 use lib.Dec.{eqb, ltb, eqb·suc-zero}
 use Rattle.rules.specs.Record.{refusal}
 use Rattle.rules.specs.Tests.{passed, held}
-use Rattle.machine.specs.Machine.{Settings, Result, Verdict, Unknown}
-use Rattle.machine.specs.Runs.{NoLess}
+use Rattle.machine.specs.Machine.{Result}
 use Rattle.machine.specs.Reached.{PoolInRange}
-use Rattle.plain.specs.Plain.{recordValue, recordSequences, plainSearch}
+use Rattle.plain.specs.Plain.{plainSearch}
 use Rattle.plain.specs.TwoSearches as plain-searches
-use Rattle.ultimattt.specs.Searches.{Limits, Searched, Refused, Answered, poolMost, rules, nodes, settings, inRange, searchRefusal, searchCall}
+use Rattle.ultimattt.specs.Searches.{Limits, Answered, poolMost, rules, nodes, settings, inRange, rangeRefusal, searchRefusal, answerTo, searchCall}
 use Rattle.ultimattt.specs.ThirdCondition.{ThirdCondition}
 
 -- what an accepted search says of its pool and its result
@@ -28,7 +27,7 @@ first-zero zero r e = (refl, e)
 first-zero (suc n) r e = let z : suc n ≡ 0 = rw (eqb·suc-zero n) at e in absurd (omega arith)
 
 pub accepts : (bytes : List ℕ) (words rule : ℕ) (L : Limits) → searchRefusal bytes words rule L ≡ 0 → Accepts bytes words rule L
-unfolding searchRefusal
+unfolding searchRefusal rangeRefusal
 accepts bytes words rule L e =
     let a = first-zero (refusal bytes) _ e in
     let b = passed (ltb (nodes words) 1) 7 _ (a .1) in
@@ -41,7 +40,7 @@ accepts bytes words rule L e =
     }
 
 pub accepts-refusal : (bytes : List ℕ) (words rule : ℕ) (L : Limits) → Accepts bytes words rule L → searchRefusal bytes words rule L ≡ 0
-unfolding searchRefusal
+unfolding searchRefusal rangeRefusal
 accepts-refusal bytes words rule L a =
     rw (a .loads, le-ltb (nodes words) 1 (a .range .some), le-ltb poolMost (nodes words) (a .range .most), a .limits)
 
@@ -49,13 +48,12 @@ accepts-refusal bytes words rule L a =
 answered : (bytes : List ℕ) (words rule : ℕ) (L : Limits) (r : Result) → searchCall bytes words rule L ≡ Answered r
     → Accepts bytes words rule L × (r ≡ plainSearch rule (settings words L) bytes)
 unfolding searchCall
-answered bytes words rule L r e = go (eqb (searchRefusal bytes words rule L) 0) refl e
+answered bytes words rule L r e = go (searchRefusal bytes words rule L) refl e
   where
-    go : (t : Bool) → eqb (searchRefusal bytes words rule L) 0 ≡ t
-        → _≡_ {A = Searched} (elim t [ true ↦ Answered (plainSearch rule (settings words L) bytes) | false ↦ Refused (searchRefusal bytes words rule L) ]) (Answered r)
+    go : (n : ℕ) → searchRefusal bytes words rule L ≡ n → answerTo n (plainSearch rule (settings words L) bytes) ≡ Answered r
         → Accepts bytes words rule L × (r ≡ plainSearch rule (settings words L) bytes)
-    go true t h = (accepts bytes words rule L (eqb-true (searchRefusal bytes words rule L) 0 t), cc)
-    go false t h = let z : _≡_ {A = ℕ} 0 1 = cc in absurd (omega arith)
+    go zero t h = (accepts bytes words rule L t, cc)
+    go (suc n) t h = let z : _≡_ {A = ℕ} 0 1 = cc in absurd (omega arith)
 
 -- positive is not 0
 not-zero : {A : Type 0} (a b : ℕ) → A ↔ ((0 < a) × (0 < b)) → A ↔ ((a ≡ 0 → ⊥) × (b ≡ 0 → ⊥))

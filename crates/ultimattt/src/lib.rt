@@ -1,14 +1,12 @@
-// The calls of the library: replay, legal moves and the referee's value of a record, and their exports.
+// The calls of the library: replay, legal moves and the referee's value of a record. Search and full verdict stand in searches, the exports in exports.
 
 ghost use mathlib.Core.Path.{_≡_};
-ghost use mathlib.Core.List.{_++_};
-ghost use Prim.Native.Nat.{ℕ, _+_, _≤_};
-ghost use lib.ListN.{length, drop};
+ghost use Prim.Native.Nat.{ℕ, _≤_};
+ghost use lib.ListN.{length};
 ghost use Rattle.rules.specs.Rules.{Position, legalMoves, replay};
-ghost use Rattle.game.specs.Numbers.{errorNumber};
 ghost use Rattle.game.specs.Lines.{lineTable};
 ghost use Rattle.game.specs.Words.{Holds, Held};
-ghost use Rattle.ultimattt.specs.Calls.{replayOutcome, movesOutcome, refereeOutcome, afterMoves, replayCall, movesCall, refereeCall};
+ghost use Rattle.ultimattt.specs.Calls.{afterMoves, replayCall, movesCall, refereeCall};
 ghost use Rattle.ultimattt.specs.Answers.{replayed, listing, refereed};
 ghost use Rattle.ultimattt.specs.Playing.{Played};
 ghost use Rattle.ultimattt.specs.Writing.{Written};
@@ -18,6 +16,9 @@ use game::MoveError;
 use game::MoveResult;
 use game::cursor::MoveIterator;
 use game::cursor::Step;
+
+pub mod exports;
+pub mod searches;
 
 // The shortest output that takes a record, and the shortest that takes every legal move.
 const RECORD_LENGTH: usize = 21;
@@ -102,19 +103,6 @@ fn write_moves(table: &[u8; 512], words: &[u16], out: &mut [u8]) -> usize
     }
 }
 
-// An error's number in the table of refusals.
-fn error_number(e: MoveError) -> u32
-    ensures { λ r. ⌜ r ≡ errorNumber e ⌝ }
-{
-    match e {
-        MoveError::OutOfBounds => 11,
-        MoveError::GameOver => 12,
-        MoveError::WonBoard => 13,
-        MoveError::WrongBoard => 14,
-        MoveError::NotEmpty => 15,
-    }
-}
-
 // Replays moves from a position and writes the record afterwards.
 fn replay_from(start: Game, moves: &[u8], out: &mut [u8]) -> Replayed
     requires { ⌜ Held (start .words) 0 × (21 ≤ length (now out)) ⌝ }
@@ -183,83 +171,4 @@ pub fn referee(bytes: &[u8], rule: u64) -> Refereed
     }
     let table = game::line_table();
     Refereed::Value(referee::value(&table, pos, rule))
-}
-
-// The answer of replay as C has it: code is 0 or the refusal's number, index the bad move's with 11 to 15 and 0 elsewhere.
-#[repr(C)]
-pub struct ReplayAnswer {
-    pub code: u32,
-    pub index: u64,
-}
-
-#[no_mangle]
-pub extern "C" fn uttt_replay(bytes: &[u8], moves: &[u8], out: &mut [u8]) -> ReplayAnswer
-    ensures { λ r. ⌜ replayOutcome (r .code) (r .index) (now (out .exit)) ≡ replayCall (now (bytes .entry)) (now (moves .entry)) (now (out .entry)) ⌝ }
-{
-    let answer = replay(bytes, moves, out);
-    match answer {
-        Replayed::Done => ReplayAnswer { code: 0, index: 0 },
-        Replayed::Refused(n) => ReplayAnswer {
-            code: n as u32,
-            index: 0,
-        },
-        Replayed::BadMove(e, i) => ReplayAnswer {
-            code: error_number(e),
-            index: i as u64,
-        },
-    }
-}
-
-// The answer of legal moves as C has it: code is 0 or the refusal's number, index 0, count how many moves were written.
-#[repr(C)]
-pub struct MovesAnswer {
-    pub code: u32,
-    pub index: u64,
-    pub count: u64,
-}
-
-#[no_mangle]
-pub extern "C" fn uttt_legal_moves(bytes: &[u8], out: &mut [u8]) -> MovesAnswer
-    ensures { λ r. ⌜ movesOutcome (r .code) (r .index) (r .count) (now (out .exit)) ≡ movesCall (now (bytes .entry)) (now (out .entry)) ⌝ }
-{
-    let answer = legal_moves(bytes, out);
-    match answer {
-        Listed::Count(n) => MovesAnswer {
-            code: 0,
-            index: 0,
-            count: n as u64,
-        },
-        Listed::Turned(n) => MovesAnswer {
-            code: n as u32,
-            index: 0,
-            count: 0,
-        },
-    }
-}
-
-// The answer of referee as C has it: code is 0 or the refusal's number; index is 0; value is 1 for True, 2 for False, and 0 with a refusal.
-#[repr(C)]
-pub struct RefereeAnswer {
-    pub code: u32,
-    pub index: u64,
-    pub value: u32,
-}
-
-#[no_mangle]
-pub extern "C" fn uttt_referee(bytes: &[u8], rule: u64) -> RefereeAnswer
-    ensures { λ r. ⌜ refereeOutcome (r .code) (r .index) (r .value) ≡ refereeCall (now (bytes .entry)) rule ⌝ }
-{
-    let answer = referee(bytes, rule);
-    match answer {
-        Refereed::Value(v) => RefereeAnswer {
-            code: 0,
-            index: 0,
-            value: if v { 1 } else { 2 },
-        },
-        Refereed::Declined(n) => RefereeAnswer {
-            code: n as u32,
-            index: 0,
-            value: 0,
-        },
-    }
 }

@@ -8,16 +8,16 @@ use Rattle.vectors.specs.declared.answers.Outcome.{Outcome}
 use Rattle.vectors.specs.declared.answers.Outcome.the-variants.{Agreed, Differs, Unreadable}
 
 -- A line agreed exactly if the stored answer is the one given, and the two outputs are the same.
-pub record Compared (stored : Stored) (code number : ℕ) (want out : List ℕ) (r : Outcome) : Type 0 where
-  pub agreed : r ≡ Agreed → (stored ≡ Answer code number) × (want ≡ out)
-  pub alike : stored ≡ Answer code number → want ≡ out → r ≡ Agreed
+pub record Compared (stored : Stored) (code index number : ℕ) (want out : List ℕ) (r : Outcome) : Type 0 where
+  pub agreed : r ≡ Agreed → (stored ≡ Answer code index number) × (want ≡ out)
+  pub alike : stored ≡ Answer code index number → want ≡ out → r ≡ Agreed
 
-module _ (stored : Stored) (code number : ℕ) (want out : List ℕ) where
-  pub same : {c n : ℕ} → stored ≡ Answer c n → c ≡ code → n ≡ number → want ≡ out → Compared stored code number want out Agreed
-  same e p q h = record { agreed = λ i. (cc, h); alike = λ i j. refl }
+module _ (stored : Stored) (code index number : ℕ) (want out : List ℕ) where
+  pub same : {c i n : ℕ} → stored ≡ Answer c i n → c ≡ code → i ≡ index → n ≡ number → want ≡ out → Compared stored code index number want out Agreed
+  same e p i q h = record { agreed = λ a. (cc, h); alike = λ a b. refl }
 
-  pub other : {c n : ℕ} → stored ≡ Answer c n → (c ≡ code → n ≡ number → want ≡ out → ⊥) → Compared stored code number want out Differs
-  other e d = record { agreed = λ i. (cc, cc); alike = λ i h. absurd (d (cc) (cc) h) }
+  pub other : {c i n : ℕ} → stored ≡ Answer c i n → (c ≡ code → i ≡ index → n ≡ number → want ≡ out → ⊥) → Compared stored code index number want out Differs
+  other e d = record { agreed = λ a. (cc, cc); alike = λ a h. absurd (d (cc) (cc) (cc) h) }
 
-  pub unread : stored ≡ NoAnswer → Compared stored code number want out Unreadable
+  pub unread : stored ≡ NoAnswer → Compared stored code index number want out Unreadable
   unread e = record { agreed = λ i. (cc, cc); alike = λ i h. cc }

@@ -1,4 +1,4 @@
--- What the contracts of `vectors::words` and of those who read by it cite. Rests on the library alone.
+-- What the contracts of `vectors::line` and of those who read by it cite. Rests on the library alone.
 use Prim.Native.Nat.{ℕ, _+_, _-_, _<_, _≤_}
 use mathlib.Core.Path.{_≡_}
 use mathlib.Core.List.{List}
@@ -6,9 +6,9 @@ use mathlib.Core.Bool.{cond}
 use lib.ListN.{length, take, drop, getD}
 use lib.Dec.{ltb}
 use Rattle.io.specs.Counts.{Counts}
-use Rattle.vectors.specs.declared.words.Word.{Word}
-use Rattle.vectors.specs.declared.words.Count.{Count}
-use Rattle.vectors.specs.declared.words.Count.the-variants.{Bytes, Unreadable}
+use Rattle.vectors.specs.declared.line.Word.{Word}
+use Rattle.vectors.specs.declared.line.Count.{Count}
+use Rattle.vectors.specs.declared.line.Count.the-variants.{Bytes, Unreadable}
 
 -- r is the first place from a on where b stands, or the length.
 pub record First (s : List ℕ) (a b r : ℕ) : Type 0 where

@@ -3,16 +3,16 @@ ghost use mathlib.Core.Path.{_≡_};
 ghost use lib.ListN.{length};
 ghost use Rattle.vectors.specs.Words.{Counted};
 ghost use Rattle.vectors.specs.Compared.{Compared};
-use crate::words;
-use words::Count;
-use words::Number;
+use crate::line;
+use line::Count;
+use line::Number;
 
 // What an output holds before a call. No legal move is this byte.
 const PATTERN: u8 = 0xA5;
 
-// The answer that is stored: 0 or a refusal's number; and the refusal's index, how many moves there are, or the value's number.
+// The answer that is stored: 0 or a refusal's number; the refusal's index, 0 with a result; and how many moves there are, or the number of a value or a full verdict, 0 elsewhere.
 pub enum Stored {
-    Answer(u64, u64),
+    Answer(u64, u64, u64),
     Unreadable,
 }
 
@@ -24,49 +24,49 @@ pub enum Outcome {
 }
 
 // An answer that ends at a place, if its line does.
-fn ended(s: &[u8], at: usize, code: u64, number: u64) -> Stored {
+pub fn ended(s: &[u8], at: usize, code: u64, index: u64, number: u64) -> Stored {
     if at == s.len() {
-        Stored::Answer(code, number)
+        Stored::Answer(code, index, number)
     } else {
         Stored::Unreadable
     }
 }
 
 // The refusal whose numbers follow a place.
-fn refusal(s: &[u8], at: usize) -> Stored {
-    let Number::Value(code, next) = words::read_number(s, at) else {
+pub fn refusal(s: &[u8], at: usize) -> Stored {
+    let Number::Value(code, next) = line::read_number(s, at) else {
         return Stored::Unreadable;
     };
-    let Number::Value(index, place) = words::read_number(s, next) else {
+    let Number::Value(index, place) = line::read_number(s, next) else {
         return Stored::Unreadable;
     };
     if code == 0 {
         return Stored::Unreadable;
     }
-    ended(s, place, code, index)
+    ended(s, place, code, index, 0)
 }
 
 // The answer that gives the next word's bytes, as many as asked. They are put at the front of want.
 fn given(s: &[u8], at: usize, bytes: u64, number: u64, want: &mut [u8]) -> Stored {
-    let Count::Bytes(n, place) = words::read_bytes(s, at, want) else {
+    let Count::Bytes(n, place) = line::read_bytes(s, at, want) else {
         return Stored::Unreadable;
     };
     if n as u64 != bytes {
         return Stored::Unreadable;
     }
-    ended(s, place, 0, number)
+    ended(s, place, 0, 0, number)
 }
 
 // The answer after a place: a refusal; a count and so many moves, if counted; or a record.
 fn read_answer(s: &[u8], at: usize, counted: bool, want: &mut [u8]) -> Stored {
-    let w = words::next_word(s, at);
-    if words::is_word(s, w, b"refused") {
+    let w = line::next_word(s, at);
+    if line::is_word(s, w, b"refused") {
         return refusal(s, w.end);
     }
     if !counted {
         return given(s, at, 21, 0, want);
     }
-    let Number::Value(count, next) = words::read_number(s, at) else {
+    let Number::Value(count, next) = line::read_number(s, at) else {
         return Stored::Unreadable;
     };
     given(s, next, count, count, want)
@@ -74,15 +74,15 @@ fn read_answer(s: &[u8], at: usize, counted: bool, want: &mut [u8]) -> Stored {
 
 // The answer after a place: a refusal; or a value, 1 for True and 2 for False.
 fn read_value(s: &[u8], at: usize) -> Stored {
-    let w = words::next_word(s, at);
-    if words::is_word(s, w, b"refused") {
+    let w = line::next_word(s, at);
+    if line::is_word(s, w, b"refused") {
         return refusal(s, w.end);
     }
-    if words::is_word(s, w, b"True") {
-        return ended(s, w.end, 0, 1);
+    if line::is_word(s, w, b"True") {
+        return ended(s, w.end, 0, 0, 1);
     }
-    if words::is_word(s, w, b"False") {
-        return ended(s, w.end, 0, 2);
+    if line::is_word(s, w, b"False") {
+        return ended(s, w.end, 0, 0, 2);
     }
     Stored::Unreadable
 }
@@ -102,15 +102,15 @@ fn within(n: u64, place: usize, most: &[u8]) -> Count
 pub fn output_length(s: &[u8], at: usize, usual: u64, most: &[u8]) -> Count
     ensures { λ r. ⌜ Counted r (now (most .entry)) ⌝ }
 {
-    let w = words::next_word(s, at);
-    if words::is_word(s, w, b"=>") {
+    let w = line::next_word(s, at);
+    if line::is_word(s, w, b"=>") {
         return within(usual, w.end, most);
     }
-    let Number::Value(n, next) = words::read_number(s, at) else {
+    let Number::Value(n, next) = line::read_number(s, at) else {
         return Count::Unreadable;
     };
-    let arrow = words::next_word(s, next);
-    if words::is_word(s, arrow, b"=>") {
+    let arrow = line::next_word(s, next);
+    if line::is_word(s, arrow, b"=>") {
         return within(n, arrow.end, most);
     }
     Count::Unreadable
@@ -124,13 +124,23 @@ pub fn untouched() -> [u8; 256]
 }
 
 // Whether the answers are the same, and the outputs in every byte.
-fn compare(stored: Stored, code: u64, number: u64, want: &[u8; 256], out: &[u8; 256]) -> Outcome
-    ensures { λ r. ⌜ Compared stored code number (now (want .entry)) (now (out .entry)) r ⌝ }
+fn compare(
+    stored: Stored,
+    code: u64,
+    index: u64,
+    number: u64,
+    want: &[u8; 256],
+    out: &[u8; 256],
+) -> Outcome
+    ensures { λ r. ⌜ Compared stored code index number (now (want .entry)) (now (out .entry)) r ⌝ }
 {
-    let Stored::Answer(c, n) = stored else {
+    let Stored::Answer(c, i, n) = stored else {
         return Outcome::Unreadable;
     };
     if c != code {
+        return Outcome::Differs;
+    }
+    if i != index {
         return Outcome::Differs;
     }
     if n != number {
@@ -149,16 +159,23 @@ pub fn settle(
     at: usize,
     counted: bool,
     code: u64,
+    index: u64,
     number: u64,
     out: &[u8; 256],
 ) -> Outcome {
     let mut want = untouched();
     let stored = read_answer(s, at, counted, &mut want);
-    compare(stored, code, number, &want, out)
+    compare(stored, code, index, number, &want, out)
 }
 
-// Compares the value that a call gave with the answer after a place. Nothing was lent.
-pub fn settle_value(s: &[u8], at: usize, code: u64, value: u64) -> Outcome {
+// Compares the numbers that a call gave with those that are stored. No bytes were lent.
+pub fn settle_numbers(stored: Stored, code: u64, index: u64, number: u64) -> Outcome {
     let none = untouched();
-    compare(read_value(s, at), code, value, &none, &none)
+    compare(stored, code, index, number, &none, &none)
+}
+
+// Compares the value that a call gave with the answer after a place.
+pub fn settle_value(s: &[u8], at: usize, code: u64, index: u64, value: u64) -> Outcome {
+    let stored = read_value(s, at);
+    settle_numbers(stored, code, index, value)
 }

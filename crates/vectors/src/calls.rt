@@ -1,11 +1,12 @@
-// The calls, a function for each: it reads the rest of its line, from the place after the record on, and runs the call.
+// The calls, a function for each, those that lend a pool in `searches`: it reads the rest of its line, from the place after the record on, and runs the call.
 ghost use Rattle.vectors.specs.Words.{Inside};
 use crate::answers;
-use crate::words;
+use crate::line;
+use crate::searches;
 use answers::Outcome;
-use words::Count;
-use words::Number;
-use words::Word;
+use line::Count;
+use line::Number;
+use line::Word;
 
 // `moves RECORD [OUTPUT-LENGTH] => COUNT MOVES`
 fn moves(s: &[u8], at: usize, record: &[u8]) -> Outcome {
@@ -13,8 +14,8 @@ fn moves(s: &[u8], at: usize, record: &[u8]) -> Outcome {
     let Count::Bytes(length, place) = answers::output_length(s, at, 81, &out) else {
         return Outcome::Unreadable;
     };
-    let got = ultimattt::uttt_legal_moves(record, &mut out[..length]);
-    answers::settle(s, place, true, got.code as u64, got.count, &out)
+    let got = ultimattt::exports::uttt_legal_moves(record, &mut out[..length]);
+    answers::settle(s, place, true, got.code as u64, got.index, got.count, &out)
 }
 
 // The rest of a line of replay, after the moves.
@@ -23,14 +24,14 @@ fn replay_of(s: &[u8], at: usize, record: &[u8], moves: &[u8]) -> Outcome {
     let Count::Bytes(length, place) = answers::output_length(s, at, 21, &out) else {
         return Outcome::Unreadable;
     };
-    let got = ultimattt::uttt_replay(record, moves, &mut out[..length]);
-    answers::settle(s, place, false, got.code as u64, got.index, &out)
+    let got = ultimattt::exports::uttt_replay(record, moves, &mut out[..length]);
+    answers::settle(s, place, false, got.code as u64, got.index, 0, &out)
 }
 
 // `replay RECORD MOVES [OUTPUT-LENGTH] => RECORD`
 fn replay(s: &[u8], at: usize, record: &[u8]) -> Outcome {
     let mut moves = [0u8; 512];
-    let Count::Bytes(n, place) = words::read_bytes(s, at, &mut moves) else {
+    let Count::Bytes(n, place) = line::read_bytes(s, at, &mut moves) else {
         return Outcome::Unreadable;
     };
     replay_of(s, place, record, &moves[..n])
@@ -38,28 +39,34 @@ fn replay(s: &[u8], at: usize, record: &[u8]) -> Outcome {
 
 // `referee RECORD RULE => VALUE`
 fn referee(s: &[u8], at: usize, record: &[u8]) -> Outcome {
-    let Number::Value(rule, next) = words::read_number(s, at) else {
+    let Number::Value(rule, next) = line::read_number(s, at) else {
         return Outcome::Unreadable;
     };
-    let arrow = words::next_word(s, next);
-    if !words::is_word(s, arrow, b"=>") {
+    let arrow = line::next_word(s, next);
+    if !line::is_word(s, arrow, b"=>") {
         return Outcome::Unreadable;
     }
-    let got = ultimattt::uttt_referee(record, rule);
-    answers::settle_value(s, arrow.end, got.code as u64, got.value as u64)
+    let got = ultimattt::exports::uttt_referee(record, rule);
+    answers::settle_value(s, arrow.end, got.code as u64, got.index, got.value as u64)
 }
 
 // Runs the call of that name.
 pub fn run(s: &[u8], name: Word, at: usize, record: &[u8]) -> Outcome
     requires { ⌜ Inside name (now s) ⌝ }
 {
-    if words::is_word(s, name, b"moves") {
+    if line::is_word(s, name, b"moves") {
         return moves(s, at, record);
     }
-    if words::is_word(s, name, b"replay") {
+    if line::is_word(s, name, b"replay") {
         return replay(s, at, record);
     }
-    if words::is_word(s, name, b"referee") {
+    if line::is_word(s, name, b"search") {
+        return searches::search(s, at, record);
+    }
+    if line::is_word(s, name, b"full") {
+        return searches::full(s, at, record);
+    }
+    if line::is_word(s, name, b"referee") {
         return referee(s, at, record);
     }
     Outcome::Unreadable

@@ -2,19 +2,21 @@
 // Each line whose answer differs or that can't be read is named; in the end come the number of lines and how many agreed.
 mod answers;
 mod calls;
-mod words;
+mod fields;
+mod line;
+mod searches;
 
 ghost use Prim.Native.Nat.{_≤_};
 use answers::Outcome;
 use libc::STDIN_FILENO;
 use libc::STDOUT_FILENO;
-use words::Count;
+use line::Count;
 
 // Runs a line. It starts with the call's name and a record.
 fn run_line(s: &[u8]) -> Outcome {
-    let name = words::first_word(s);
+    let name = line::first_word(s);
     let mut record = [0u8; 64];
-    let Count::Bytes(n, place) = words::read_bytes(s, name.end, &mut record) else {
+    let Count::Bytes(n, place) = line::read_bytes(s, name.end, &mut record) else {
         return Outcome::Unreadable;
     };
     calls::run(s, name, place, &record[..n])
@@ -43,7 +45,7 @@ fn run_list(text: &[u8]) {
     let mut lines: u64 = 0;
     let mut agreed: u64 = 0;
     while at < text.len() {
-        let end = words::find(text, at, b'\n');
+        let end = line::find(text, at, b'\n');
         lines += 1;
         agreed += report(lines, run_line(&text[at..end]));
         at = end + 1;

@@ -5,7 +5,6 @@ pub mod Unique
 pub mod Free
 pub mod Freeing
 pub mod Pool
-pub mod Sample
 pub mod Current
 pub mod Steps
 pub mod Making

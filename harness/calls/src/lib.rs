@@ -8,5 +8,5 @@ pub mod record;
 pub mod table;
 pub mod tool;
 
-pub use line::{Answer, Call, Fields, Kind};
+pub use line::{Answer, Call, Fields, FullVerdict, Kind};
 pub use record::Position;

@@ -4,6 +4,7 @@
 //! moves RECORD [OUTPUT-LENGTH]                          COUNT MOVES
 //! replay RECORD MOVES [OUTPUT-LENGTH]                   RECORD
 //! search RECORD RULE POOL-NODES LIMIT BUDGET INTERVAL   the nine fields
+//! full RECORD POOL-NODES LIMIT BUDGET INTERVAL          VERDICT | nine fields | nine fields
 //! referee RECORD RULE                                   True or False
 //!                                                       refused NUMBER INDEX
 //! ```
@@ -22,6 +23,7 @@ pub enum Call {
     Moves { record: Vec<u8>, output: usize },
     Replay { record: Vec<u8>, moves: Vec<u8>, output: usize },
     Search { record: Vec<u8>, rule: u64, pool: u64, limit: u64, budget: u64, interval: u64 },
+    Full { record: Vec<u8>, pool: u64, limit: u64, budget: u64, interval: u64 },
     Referee { record: Vec<u8>, rule: u64 },
 }
 
@@ -31,11 +33,12 @@ pub enum Kind {
     Moves,
     Replay,
     Search,
+    Full,
     Referee,
 }
 
 impl Kind {
-    pub const ALL: [Kind; 4] = [Kind::Moves, Kind::Replay, Kind::Search, Kind::Referee];
+    pub const ALL: [Kind; 5] = [Kind::Moves, Kind::Replay, Kind::Search, Kind::Full, Kind::Referee];
 
     /// The word that a call's line starts with.
     pub fn name(self) -> &'static str {
@@ -43,6 +46,7 @@ impl Kind {
             Kind::Moves => "moves",
             Kind::Replay => "replay",
             Kind::Search => "search",
+            Kind::Full => "full",
             Kind::Referee => "referee",
         }
     }
@@ -54,6 +58,7 @@ impl Call {
             Call::Moves { .. } => Kind::Moves,
             Call::Replay { .. } => Kind::Replay,
             Call::Search { .. } => Kind::Search,
+            Call::Full { .. } => Kind::Full,
             Call::Referee { .. } => Kind::Referee,
         }
     }
@@ -80,13 +85,42 @@ pub enum Verdict {
     False,
 }
 
+/// What the searches under rules 1 and 2 tell together.
+#[derive(Clone, Copy, Debug, PartialEq, Eq)]
+pub enum FullVerdict {
+    Unknown,
+    Win,
+    Loss,
+    Draw,
+    AtLeastDraw,
+    AtMostDraw,
+}
+
+impl FullVerdict {
+    pub fn name(self) -> &'static str {
+        match self {
+            FullVerdict::Unknown => "unknown",
+            FullVerdict::Win => "win",
+            FullVerdict::Loss => "loss",
+            FullVerdict::Draw => "draw",
+            FullVerdict::AtLeastDraw => "at-least-draw",
+            FullVerdict::AtMostDraw => "at-most-draw",
+        }
+    }
+}
+
 #[derive(Clone, Debug, PartialEq, Eq)]
 pub enum Answer {
     Moves(Vec<u8>),
     Record(Vec<u8>),
     Search(Fields),
+    /// The results under rule 1 and rule 2 follow the verdict.
+    Full(FullVerdict, Fields, Fields),
     Value(bool),
-    Refused { number: u32, index: u64 },
+    Refused {
+        number: u32,
+        index: u64,
+    },
 }
 
 impl Answer {
@@ -120,6 +154,7 @@ impl fmt::Display for Answer {
             Answer::Moves(moves) => write!(f, "{} {}", moves.len(), hex::show(moves)),
             Answer::Record(record) => write!(f, "{}", hex::show(record)),
             Answer::Search(fields) => write!(f, "{}", fields),
+            Answer::Full(verdict, first, second) => write!(f, "{} | {} | {}", verdict.name(), first, second),
             Answer::Value(value) => write!(f, "{}", if *value { "True" } else { "False" }),
             Answer::Refused { number, index } => write!(f, "refused {} {}", number, index),
         }
@@ -139,6 +174,9 @@ impl fmt::Display for Call {
             }
             Call::Search { record, rule, pool, limit, budget, interval } => {
                 write!(f, "search {} {} {} {} {} {}", hex::show(record), rule, pool, limit, budget, interval)
+            }
+            Call::Full { record, pool, limit, budget, interval } => {
+                write!(f, "full {} {} {} {} {}", hex::show(record), pool, limit, budget, interval)
             }
             Call::Referee { record, rule } => write!(f, "referee {} {}", hex::show(record), rule),
         }
@@ -175,12 +213,20 @@ pub fn parse(line: &str) -> Result<Call, String> {
             budget: number("budget", budget)?,
             interval: number("interval", interval)?,
         }),
+        ["full", record, pool, limit, budget, interval] => Ok(Call::Full {
+            record: bytes("record", record)?,
+            pool: number("pool", pool)?,
+            limit: number("limit", limit)?,
+            budget: number("budget", budget)?,
+            interval: number("interval", interval)?,
+        }),
         ["referee", record, rule] => {
             Ok(Call::Referee { record: bytes("record", record)?, rule: number("rule", rule)? })
         }
         ["moves", ..] => Err("moves takes RECORD [OUTPUT-LENGTH]".to_string()),
         ["replay", ..] => Err("replay takes RECORD MOVES [OUTPUT-LENGTH]".to_string()),
         ["search", ..] => Err("search takes RECORD RULE POOL-NODES LIMIT BUDGET INTERVAL".to_string()),
+        ["full", ..] => Err("full takes RECORD POOL-NODES LIMIT BUDGET INTERVAL".to_string()),
         ["referee", ..] => Err("referee takes RECORD RULE".to_string()),
         [other, ..] => Err(format!("no call is named {:?}", other)),
     }

@@ -106,6 +106,11 @@ pub fn search_refusal(record: &[u8], rule: u64, pool: u64, budget: u64, interval
     record_refusal(record).or(first(&[(8, pool < 1), (9, pool > LARGEST_POOL), (10, settings)]))
 }
 
+/// Search's checks without a rule.
+pub fn full_refusal(record: &[u8], pool: u64, budget: u64, interval: u64) -> Option<u32> {
+    search_refusal(record, 0, pool, budget, interval)
+}
+
 /// Empty cells of boards in play.
 pub fn open_cells(position: &Position) -> usize {
     let open = position.cells.iter().filter(|board| board_state(board) == Board::InPlay);

@@ -11,6 +11,7 @@ fn lines_are_read_and_printed() {
         "replay 7800 4400",
         "replay - - 22",
         "search 00 0 1 18446744073709551615 3 4",
+        "full 00 1 18446744073709551615 3 4",
         "referee 00 2",
     ] {
         assert_eq!(line::parse(text).expect(text).to_string(), text);
@@ -31,6 +32,8 @@ fn wrong_lines_are_told() {
         "moves 00 1000001",
         "replay 00",
         "search 00 0 1 2 3",
+        "full 00 1 2 3",
+        "full 00 0 1 2 3 4",
         "referee 00",
         "referee 00 0 1",
         "search 00 0 1 2 3 -4",
@@ -90,6 +93,10 @@ fn settings_are_checked_in_order() {
     assert_eq!(refusal(2, 1, 1_000_000_000_001, 1), Some(10));
     assert_eq!(refusal(2, 1, 1_000_000_000_000, 1_000_001), Some(10));
     assert_eq!(refusal(2, 1, 1_000_000_000_000, 1_000_000), None);
+    assert_eq!(table::full_refusal(&record, 0, 0, 0), Some(8));
+    assert_eq!(table::full_refusal(&record, 16_777_217, 0, 0), Some(9));
+    assert_eq!(table::full_refusal(&record, 16_777_216, 0, 0), Some(10));
+    assert_eq!(table::full_refusal(&record, 1, 1_000_000_000_000, 1_000_000), None);
     assert_eq!(table::referee_refusal(&record, 3), Some(10));
     assert_eq!(table::referee_refusal(&record, 2), Some(16));
     assert_eq!(table::output_refusal(&record, 20, table::RECORD_ROOM), Some(7));

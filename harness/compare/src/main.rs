@@ -1,6 +1,6 @@
 //! Runs the proved library and the oracle on the same calls and compares every answer, and the
-//! bytes that must stay untouched. A difference prints the smallest call found that shows it, and
-//! fails.
+//! bytes and words that must stay untouched. A difference prints the smallest call found that shows
+//! it, and fails.
 //!
 //! ```text
 //! compare [SEED [COUNT]]
@@ -8,7 +8,7 @@
 
 mod shrink;
 
-use calls::{Answer, Call};
+use calls::{Answer, Call, Kind};
 use oracle::generate::{self, Random};
 use std::collections::BTreeMap;
 use std::process::ExitCode;
@@ -46,11 +46,10 @@ fn main() -> ExitCode {
 fn first_difference(seed: u64, count: u64, tally: &mut Tally) -> Option<Call> {
     let mut random = Random::new(seed);
     let generated = (0..count).map(|_| {
-        let kind = random.pick(ours::LANDED);
+        let kind = random.pick(&Kind::ALL);
         generate::call(&mut random, kind)
     });
-    let landed = oracle::cases::calls().filter(|call| ours::LANDED.contains(&call.kind()));
-    for call in landed.chain(generated) {
+    for call in oracle::cases::calls().chain(generated) {
         let theirs = oracle::answer(&call);
         *tally.entry(kind(&call, &theirs)).or_default() += 1;
         if ours::answer(&call) != Ok(theirs) {
@@ -68,6 +67,9 @@ fn kind(call: &Call, answer: &Answer) -> String {
     let outcome = match answer {
         Answer::Refused { number, .. } => format!("refused {:>2}", number),
         Answer::Search(fields) => format!("{:?}, cause {}", fields.verdict, fields.cause),
+        Answer::Full(verdict, first, second) => {
+            format!("{}, causes {} and {}", verdict.name(), first.cause, second.cause)
+        }
         Answer::Moves(moves) if moves.is_empty() => "none".to_string(),
         Answer::Moves(_) | Answer::Record(_) => "answered".to_string(),
         Answer::Value(_) => answer.to_string(),

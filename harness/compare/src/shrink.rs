@@ -29,21 +29,15 @@ fn smaller(call: &Call) -> Vec<Call> {
             out
         }
         Call::Search { record, rule, pool, limit, budget, interval } => {
-            let with = |record: Vec<u8>, pool, limit, budget, interval| Call::Search {
-                record,
-                rule: *rule,
-                pool,
-                limit,
-                budget,
-                interval,
-            };
-            let mut out: Vec<Call> =
-                lower(*budget).map(|b| with(record.clone(), *pool, *limit, b, *interval)).collect();
-            out.extend(lower(*pool).map(|p| with(record.clone(), p, *limit, *budget, *interval)));
-            out.extend(lower(*interval).map(|i| with(record.clone(), *pool, *limit, *budget, i)));
-            out.extend(lower(*limit).map(|l| with(record.clone(), *pool, l, *budget, *interval)));
-            out.extend(records(record).map(|r| with(r, *pool, *limit, *budget, *interval)));
-            out
+            let rule = *rule;
+            searches(record, [*pool, *limit, *budget, *interval], |record, [pool, limit, budget, interval]| {
+                Call::Search { record, rule, pool, limit, budget, interval }
+            })
+        }
+        Call::Full { record, pool, limit, budget, interval } => {
+            searches(record, [*pool, *limit, *budget, *interval], |record, [pool, limit, budget, interval]| {
+                Call::Full { record, pool, limit, budget, interval }
+            })
         }
         Call::Referee { record, rule } => {
             let mut out: Vec<Call> = lower(*rule).map(|rule| Call::Referee { record: record.clone(), rule }).collect();
@@ -51,6 +45,23 @@ fn smaller(call: &Call) -> Vec<Call> {
             out
         }
     }
+}
+
+/// Calls made from a smaller record, or from settings (pool, limit, budget, interval) of which one is
+/// smaller.
+fn searches(record: &[u8], settings: [u64; 4], call: impl Fn(Vec<u8>, [u64; 4]) -> Call) -> Vec<Call> {
+    // Budget, pool, interval, limit.
+    let places = [2, 0, 3, 1].into_iter();
+    let lowered = places.flat_map(|at| {
+        lower(settings[at]).map(move |less| {
+            let mut fewer = settings;
+            fewer[at] = less;
+            fewer
+        })
+    });
+    let mut out: Vec<Call> = lowered.map(|fewer| call(record.to_vec(), fewer)).collect();
+    out.extend(records(record).map(|fewer| call(fewer, settings)));
+    out
 }
 
 /// The moves without one, or cut in half.

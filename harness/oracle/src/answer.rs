@@ -1,7 +1,8 @@
 //! The calls of document 01, answered by the original: replay by `make_move`, legal moves by
 //! `all_moves` (never on a finished position, where document 01 says there are none), search by
-//! `Prover::prove`. Refusals 1 to 10 and 16 come from `calls::table`. The original has no referee: its
-//! answer is our own exhaustive value over the original's moves (`value`).
+//! `Prover::prove`. Refusals 1 to 10 and 16 come from `calls::table`. The original has no full verdict
+//! and no referee: the one is two of its searches and a name of our own (`full`), the other our own
+//! exhaustive value over its moves (`value`).
 
 use crate::game::{Game, GameState, Move, MoveError, Player};
 use crate::load;
@@ -10,7 +11,7 @@ use crate::prove::Evaluation;
 use calls::line::Verdict;
 use calls::record::LENGTH;
 use calls::table::{self, MOVES_ROOM, RECORD_ROOM};
-use calls::{Answer, Call, Fields};
+use calls::{Answer, Call, Fields, FullVerdict};
 
 /// Answers any call.
 pub fn answer(call: &Call) -> Answer {
@@ -27,6 +28,13 @@ pub fn answer(call: &Call) -> Answer {
         Call::Search { record, rule, pool, limit, budget, interval } => {
             refused_or(table::search_refusal(record, *rule, *pool, *budget, *interval), || {
                 Answer::Search(search(accepted(record), *rule, *pool, *limit, *budget, *interval))
+            })
+        }
+        Call::Full { record, pool, limit, budget, interval } => {
+            refused_or(table::full_refusal(record, *pool, *budget, *interval), || {
+                let under = |rule| search(accepted(record), rule, *pool, *limit, *budget, *interval);
+                let (first, second) = (under(1), under(2));
+                Answer::Full(full(first.verdict, second.verdict), first, second)
             })
         }
         Call::Referee { record, rule } => refused_or(table::referee_refusal(record, *rule), || {
@@ -100,6 +108,18 @@ pub fn search(record: &[u8; LENGTH], rule: u64, pool: u64, limit: u64, budget: u
         disproved: result.stats.disproved as u64,
         expanded: result.stats.expanded as u64,
         cause: result.cause.into(),
+    }
+}
+
+/// The full verdict by those under rule 1 and rule 2, as document 01 has it, in its order.
+pub fn full(first: Verdict, second: Verdict) -> FullVerdict {
+    match (first, second) {
+        (Verdict::True, _) => FullVerdict::Win,
+        (_, Verdict::False) => FullVerdict::Loss,
+        (Verdict::False, Verdict::True) => FullVerdict::Draw,
+        (Verdict::Unknown, Verdict::True) => FullVerdict::AtLeastDraw,
+        (Verdict::False, Verdict::Unknown) => FullVerdict::AtMostDraw,
+        (Verdict::Unknown, Verdict::Unknown) => FullVerdict::Unknown,
     }
 }
 

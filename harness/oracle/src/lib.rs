@@ -1,6 +1,6 @@
 //! The oracle: the original search, built from its own sources with the patches of build/patches.rs,
-//! and the calls of document 01 answered by it. Where the original has no counterpart (refusals 1 to
-//! 10) `calls::table` answers.
+//! and the calls of document 01 answered by it. Where the original has no counterpart `answer` says
+//! what stands in for it.
 
 /// Modules of the original, as patched by build.rs.
 #[allow(warnings, clippy::all)]

@@ -15,13 +15,14 @@ fn one_seed_gives_one_list() {
     assert_ne!(list(5), list(6));
 }
 
-/// Refusals by number, results as 0; searches by cause as 20 and up.
+/// Refusals by number, results as 0; searches by cause as 20 and up, full verdicts as 30 and up.
 fn outcomes(kind: Kind) -> BTreeSet<u64> {
     let mut random = Random::new(1);
     let answers = (0..4_000).map(|_| oracle::answer(&call(&mut random, kind)));
     let outcome = |answer| match answer {
         Answer::Refused { number, .. } => number as u64,
         Answer::Search(fields) => 20 + fields.cause,
+        Answer::Full(verdict, ..) => 30 + verdict as u64,
         Answer::Moves(_) | Answer::Record(_) | Answer::Value(_) => 0,
     };
     answers.map(outcome).collect()
@@ -32,6 +33,7 @@ fn every_outcome_is_reached() {
     assert_eq!(outcomes(Kind::Moves), (0..=7).collect());
     assert_eq!(outcomes(Kind::Replay), (0..=7).chain(11..=15).collect());
     assert_eq!(outcomes(Kind::Search), (1..=6).chain(8..=10).chain(20..=23).collect());
+    assert_eq!(outcomes(Kind::Full), (1..=6).chain(8..=10).chain(30..=35).collect());
     assert_eq!(outcomes(Kind::Referee), (0..=6).chain([10, 16]).collect());
 }
 

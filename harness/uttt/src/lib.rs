@@ -3,3 +3,4 @@
 mod ffi;
 mod lent;
 pub mod ours;
+mod pool;

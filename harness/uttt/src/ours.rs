@@ -1,13 +1,11 @@
-//! Calls answered by the proved library. An answer comes back only if every byte that the library
-//! had no business with stayed as it was.
+//! Calls answered by the proved library. An answer comes back only if every byte and word that the
+//! library had no business with stayed as it was; of a very long pool, those that are looked at.
 
-use crate::ffi;
 use crate::lent::Lent;
+use crate::{ffi, pool};
+use calls::line::Verdict;
 use calls::record::LENGTH;
-use calls::{Answer, Call, Kind};
-
-/// The calls that the library exports today.
-pub const LANDED: &[Kind] = &[Kind::Moves, Kind::Replay, Kind::Referee];
+use calls::{Answer, Call, Fields, FullVerdict};
 
 /// Answers a call under two opposite patterns, or says what is wrong.
 pub fn answer(call: &Call) -> Result<Answer, String> {
@@ -23,8 +21,13 @@ fn answer_under(call: &Call, pattern: u8) -> Result<Answer, String> {
     match call {
         Call::Moves { record, output } => moves(record, *output, pattern),
         Call::Replay { record, moves, output } => replay(record, moves, *output, pattern),
+        Call::Search { record, rule, pool, limit, budget, interval } => {
+            search(record, *rule, *pool, [*limit, *budget, *interval], pattern)
+        }
+        Call::Full { record, pool, limit, budget, interval } => {
+            full(record, *pool, [*limit, *budget, *interval], pattern)
+        }
         Call::Referee { record, rule } => referee(record, *rule),
-        other => Err(format!("the library has no {} yet", other.kind().name())),
     }
 }
 
@@ -75,6 +78,81 @@ fn referee(record: &[u8], rule: u64) -> Result<Answer, String> {
         (number, 0) => Ok(Answer::refused(number)),
         (number, other) => Err(format!("refused {} with a value, {}", number, other)),
     }
+}
+
+/// `limits` are limit, budget and interval.
+fn search(record: &[u8], rule: u64, nodes: u64, limits: [u64; 3], pattern: u8) -> Result<Answer, String> {
+    let record_before = record.to_vec();
+    let [limit, budget, interval] = limits;
+    // SAFETY: pointers and lengths belong together, and the buffers are apart.
+    let call = |words, length| unsafe {
+        ffi::uttt_search(record.as_ptr(), record.len(), words, length, rule, limit, budget, interval)
+    };
+    let answered = pool::lend(nodes, pattern, call, |answered| answered.code == 0)?;
+    same("record", &record_before, record)?;
+    if answered.code != 0 {
+        return settings_refusal(answered.code, answered.index, answered.result == ffi::Fields::default());
+    }
+    if answered.index != 0 {
+        return Err(format!("answered with index {}", answered.index));
+    }
+    Ok(Answer::Search(fields(answered.result)?))
+}
+
+/// `limits` are limit, budget and interval.
+fn full(record: &[u8], nodes: u64, limits: [u64; 3], pattern: u8) -> Result<Answer, String> {
+    let record_before = record.to_vec();
+    let [limit, budget, interval] = limits;
+    // SAFETY: pointers and lengths belong together, and the buffers are apart.
+    let call = |words, length| unsafe {
+        ffi::uttt_full_verdict(record.as_ptr(), record.len(), words, length, limit, budget, interval)
+    };
+    let answered = pool::lend(nodes, pattern, call, |answered| answered.code == 0)?;
+    same("record", &record_before, record)?;
+    if answered.code != 0 {
+        let zeros = answered.verdict == 0 && [answered.first, answered.second] == [ffi::Fields::default(); 2];
+        return settings_refusal(answered.code, answered.index, zeros);
+    }
+    if answered.index != 0 {
+        return Err(format!("answered with index {}", answered.index));
+    }
+    let verdict = match answered.verdict {
+        0 => FullVerdict::Unknown,
+        1 => FullVerdict::Win,
+        2 => FullVerdict::Loss,
+        3 => FullVerdict::Draw,
+        4 => FullVerdict::AtLeastDraw,
+        5 => FullVerdict::AtMostDraw,
+        other => return Err(format!("answered with full verdict {}", other)),
+    };
+    Ok(Answer::Full(verdict, fields(answered.first)?, fields(answered.second)?))
+}
+
+fn fields(result: ffi::Fields) -> Result<Fields, String> {
+    Ok(Fields {
+        verdict: match result.verdict {
+            0 => Verdict::Unknown,
+            1 => Verdict::True,
+            2 => Verdict::False,
+            other => return Err(format!("answered with verdict {}", other)),
+        },
+        proof: result.proof.into(),
+        disproof: result.disproof.into(),
+        allocated: result.allocated,
+        freed: result.freed,
+        proved: result.proved,
+        disproved: result.disproved,
+        expanded: result.expanded,
+        cause: result.cause.into(),
+    })
+}
+
+/// A refusal of a search or a full verdict: all of its results are zeros.
+fn settings_refusal(number: u32, index: u64, zeros: bool) -> Result<Answer, String> {
+    if !zeros {
+        return Err(format!("refused {} with a result", number));
+    }
+    Ok(Answer::Refused { number, index })
 }
 
 /// A refusal writes nothing and gives no result.

@@ -1,5 +1,4 @@
 -- `game::bit` meets its contract: a power of two below the ninth fits. Assumes nothing.
-use mathlib.Core.Path.{_≡_}
 use Prim.Native.Nat.{_^_, _≤_}
 use native.Mathlib.Nat.{one-mul, mod-eq-of-lt}
 use lib.Pow.{pow-mono}

@@ -1,5 +1,4 @@
 -- `game::done_bits` meets its contract: the three masks have no board in common. Assumes nothing.
-use mathlib.Core.Path.{_∙_}
 use Rattle.game.specs.Words.{done-is}
 use borrow.Author.Needs.{needs}
 use Rattle.game.proofs.done_bits.Statement.{statement}

@@ -1,6 +1,6 @@
 -- `game::in_bounds` meets its contract, by its three arms. Assumes nothing.
-use mathlib.Core.Path.{_≡_, sym, ap, _∙_}
-use mathlib.Core.Bool.{false, _&&_, and-false}
+use mathlib.Core.Path.{sym}
+use mathlib.Core.Bool.{and-false}
 use Prim.Native.Nat.{_≤_, _<_}
 use lib.Dec.{ltb}
 use borrow.Author.Tests.{lt-ltb, le-ltb}

@@ -1,5 +1,4 @@
 -- `game::led_to` meets its contract. Assumes nothing.
-use mathlib.Core.Path.{sym}
 use borrow.Author.Tests.{eq-eqb, ne-eqb}
 use Rattle.game.proofs.led_to.Statement.{statement}
 use Rattle.game.proofs.led_to.Tie as tie

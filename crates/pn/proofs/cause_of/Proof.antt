@@ -1,6 +1,4 @@
 -- `pn::cause_of` meets its contract, by its tests. Assumes nothing.
-use mathlib.Core.Path.{refl}
-use mathlib.Core.Bool.{cond, or-true}
 use borrow.Author.Tests.{eq-eqb, ne-eqb}
 use Rattle.pn.proofs.cause_of.Statement.{statement}
 use Rattle.pn.proofs.cause_of.Tie as tie

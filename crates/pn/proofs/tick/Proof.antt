@@ -1,5 +1,5 @@
 -- `pn::tick` meets its contract, at each of its answers. Assumes nothing.
-use mathlib.Core.Path.{refl, sym, _∙_}
+use mathlib.Core.Path.{refl}
 use native.Mathlib.Omega.{arith}
 use borrow.Author.Needs.{needs}
 use Rattle.pn.proofs.tick.Statement.{statement}

@@ -1,5 +1,4 @@
 -- `pn::verdict_of` meets its contract, by its tests. Assumes nothing.
-use mathlib.Core.Path.{refl}
 use borrow.Author.Tests.{eq-eqb, ne-eqb}
 use Rattle.machine.specs.Machine.{verdictOf}
 use Rattle.pn.proofs.verdict_of.Statement.{statement}

@@ -1,5 +1,5 @@
 -- `ultimattt::legal_moves` meets its contract, by the check that decides. Assumes nothing.
-use mathlib.Core.Path.{sym, ap, _∙_}
+use mathlib.Core.Path.{sym, _∙_}
 use native.Mathlib.Omega.{arith}
 use Rattle.rules.specs.Record.{positionOf}
 use Rattle.ultimattt.specs.Writing.{written-listed}

@@ -1,5 +1,5 @@
 -- `ultimattt::referee` meets its contract, by the check that decides. Assumes nothing.
-use mathlib.Core.Path.{_≡_, sym, _∙_}
+use mathlib.Core.Path.{sym, _∙_}
 use native.Mathlib.Omega.{arith}
 use Rattle.rules.specs.Record.{positionOf}
 use Rattle.rules.specs.Checks.{loads, loads-accepted}

@@ -3,13 +3,17 @@
 //! ```text
 //! answers                              reads calls, one a line, and prints their answers
 //! answers list SEED COUNT [CALL...]    prints COUNT calls with their answers, `CALL => ANSWER`,
-//!                                      after those of cases.txt; only the calls named, if any
+//!                                      after those of cases.txt; only the calls named, if any,
+//!                                      and none whose pool is larger than `vectors` lends
 //! ```
 
 use calls::{Call, Kind};
 use oracle::generate::{self, Random};
 use std::io::{self, BufWriter, Write};
 use std::process::ExitCode;
+
+/// The most nodes of a pool that crates/vectors lends.
+const STORED_NODES: u64 = 4_096;
 
 fn main() -> ExitCode {
     let arguments: Vec<String> = std::env::args().skip(1).collect();
@@ -45,16 +49,26 @@ fn kinds(names: &[&str]) -> Option<Vec<Kind>> {
     names.iter().map(|name| Kind::ALL.into_iter().find(|k| k.name() == *name)).collect()
 }
 
-fn list(seed: u64, count: u64, kinds: &[Kind]) -> io::Result<()> {
+fn list(seed: u64, count: usize, kinds: &[Kind]) -> io::Result<()> {
     let mut out = BufWriter::new(io::stdout().lock());
     let mut show = |call: Call| writeln!(out, "{} => {}", call, oracle::answer(&call));
-    for call in oracle::cases::calls().filter(|call| kinds.contains(&call.kind())) {
+    for call in oracle::cases::calls().filter(|call| kinds.contains(&call.kind()) && is_stored(call)) {
         show(call)?;
     }
     let mut random = Random::new(seed);
-    for _ in 0..count {
+    let generated = std::iter::repeat_with(|| {
         let kind = random.pick(kinds);
-        show(generate::call(&mut random, kind))?;
+        generate::call(&mut random, kind)
+    });
+    for call in generated.filter(is_stored).take(count) {
+        show(call)?;
     }
     out.flush()
+}
+
+fn is_stored(call: &Call) -> bool {
+    match call {
+        Call::Search { pool, .. } | Call::Full { pool, .. } => *pool <= STORED_NODES,
+        Call::Moves { .. } | Call::Replay { .. } | Call::Referee { .. } => true,
+    }
 }

@@ -12,6 +12,7 @@ pub use random::Random;
 use calls::record::{Position, LENGTH};
 use calls::table::{open_cells, MOVES_ROOM, RECORD_ROOM};
 use calls::{Call, Kind};
+use settings::Settings;
 
 /// A call of the given kind.
 pub fn call(random: &mut Random, kind: Kind) -> Call {
@@ -28,7 +29,14 @@ pub fn call(random: &mut Random, kind: Kind) -> Call {
             };
             Call::Replay { record, moves, output: output(random, RECORD_ROOM) }
         }
-        Kind::Search => search(random),
+        Kind::Search => {
+            let (record, s) = search(random);
+            Call::Search { record, rule: s.rule, pool: s.pool, limit: s.limit, budget: s.budget, interval: s.interval }
+        }
+        Kind::Full => {
+            let (record, s) = search(random);
+            Call::Full { record, pool: s.pool, limit: s.limit, budget: s.budget, interval: s.interval }
+        }
         Kind::Referee => referee(random),
     }
 }
@@ -53,7 +61,8 @@ fn output(random: &mut Random, usual: usize) -> usize {
     }
 }
 
-fn search(random: &mut Random) -> Call {
+/// The record and the settings of a search.
+fn search(random: &mut Random) -> (Vec<u8>, Settings) {
     let record = match random.below(8) {
         0..=2 => positions::ending(random).write().to_vec(),
         3..=5 => positions::late(random).write().to_vec(),
@@ -63,8 +72,7 @@ fn search(random: &mut Random) -> Call {
         Ok(bytes) => open_cells(&Position::read(bytes)) > 14,
         Err(_) => false,
     };
-    let s = settings::settings(random, small);
-    Call::Search { record, rule: s.rule, pool: s.pool, limit: s.limit, budget: s.budget, interval: s.interval }
+    (record, settings::settings(random, small))
 }
 
 /// Endings most often, so that many are small enough to be answered.

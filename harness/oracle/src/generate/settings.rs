@@ -11,9 +11,12 @@ pub struct Settings {
     pub interval: u64,
 }
 
-/// `small` bounds the work: the position is far from its end, so no large budget comes with a large
-/// pool.
+/// `small` bounds the work: the position is far from its end, so with a large pool the budget stays
+/// below 10,000, but for a few of 100,000.
 pub fn settings(random: &mut Random, small: bool) -> Settings {
+    if random.once_in(6) {
+        return deep(random);
+    }
     let mut settings = Settings {
         rule: rule(random),
         pool: pool(random),
@@ -27,6 +30,17 @@ pub fn settings(random: &mut Random, small: bool) -> Settings {
     settings
 }
 
+/// Settings that are taken and let the search go on for a while.
+fn deep(random: &mut Random) -> Settings {
+    Settings {
+        rule: random.below(3),
+        pool: random.pick(&[4_096, 10_000, 65_536, LARGEST_POOL]),
+        limit: random.pick(&[4_000, 20_000, u64::MAX, u64::MAX]),
+        budget: if random.once_in(100) { 100_000 } else { random.below(5_000) },
+        interval: random.pick(&[1, 7, 100, 1_000]),
+    }
+}
+
 /// A draw rule; now and then none of the three.
 pub fn rule(random: &mut Random) -> u64 {
     if random.once_in(40) {
@@ -38,22 +52,24 @@ pub fn rule(random: &mut Random) -> u64 {
 
 fn pool(random: &mut Random) -> u64 {
     match random.below(20) {
-        0 => random.pick(&[0, LARGEST_POOL + 1, u64::MAX]),
+        0 => random.pick(&[0, LARGEST_POOL + 1, 2 * LARGEST_POOL]),
         1 => random.pick(&[1, 2, 3, LARGEST_POOL]),
-        2..=5 => 1 + random.below(20),
-        6..=10 => 1 + random.below(200),
-        11..=14 => 1 + random.below(3_276),
-        _ => random.pick(&[82, 1_000, 3_276, 65_536]),
+        2..=4 => 1 + random.below(20),
+        5..=7 => 1 + random.below(200),
+        8..=12 => 1 + random.below(4_096),
+        13..=17 => random.pick(&[82, 1_000, 3_276, 4_096]),
+        _ => random.pick(&[10_000, 65_536]),
     }
 }
 
 /// The original keeps its limit in bytes, so the largest that it can hold is among these.
 fn limit(random: &mut Random) -> u64 {
     let last_held = u64::MAX / crate::prove::pn::sizeof_node() as u64;
-    match random.below(4) {
+    match random.below(10) {
         0 => random.below(30),
-        1 => random.below(1_000),
-        2 => random.pick(&[0, 1, 2, last_held, last_held + 1]),
+        1 | 2 => random.below(1_000),
+        3 => random.below(10_000),
+        4 => random.pick(&[0, 1, 2, last_held, last_held + 1]),
         _ => u64::MAX,
     }
 }
@@ -62,9 +78,10 @@ fn budget(random: &mut Random) -> u64 {
     match random.below(20) {
         0 => random.pick(&[LARGEST_BUDGET + 1, u64::MAX]),
         1 => random.pick(&[0, 1, 2, LARGEST_BUDGET]),
-        2..=7 => random.below(12),
-        8..=13 => random.below(300),
-        14..=16 => random.below(10_000),
+        2..=4 => random.below(12),
+        5..=8 => random.below(300),
+        9..=12 => random.below(3_000),
+        13 | 14 => random.below(20_000),
         _ => random.pick(&[5_000, LARGEST_BUDGET]),
     }
 }

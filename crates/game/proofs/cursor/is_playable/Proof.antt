@@ -1,7 +1,6 @@
 -- `game::is_playable` meets its contract: a playable cell has none of the three errors. Assumes nothing.
-use mathlib.Core.Path.{_≡_, sym, ap, _∙_}
+use mathlib.Core.Path.{sym, ap, _∙_}
 use Prim.Native.Nat.{ℕ}
-use mathlib.Core.Bool.{false}
 use lib.Dec.{eqb}
 use borrow.Author.Tests.{ne-eqb}
 use Rattle.game.specs.Numbers.{resultNumber, err-number}

@@ -1,0 +1,116 @@
+-- `printed::put_number` meets its contract; it ends since n falls. Assumes nothing.
+use Prim.Native.Nat.{ℕ, _<_}
+use native.Mathlib.Omega.{arith}
+use borrow.Author.Needs.{needs}
+use borrow.Fn.Kinds.{In}
+use borrow.Fn.PlainCycle.{Measures, is, falls, and}
+use Rattle.printed.specs.Decimals.{decimal-spells}
+use Rattle.printed.specs.Puts.{put-digit, put-last, tenth-shorter}
+use Rattle.printed.proofs.put_number.Reads as put-number
+use Rattle.printed.proofs.put_number.Kinds as put-number-kinds
+use Rattle.printed.proofs.+put_number.Lts-put_number as put-number-lts
+use Rattle.printed.proofs.put_byte.Reads as put-byte-reads
+use Rattle.printed.proofs.+put_number.{statement}
+use Rattle.printed.proofs.+put_number.Tie.{close}
+
+abbrev μ-put-number : Measures 1 put-number-kinds.ps ℕ
+μ-put-number κs a = a .1 .1 .0
+
+abbrev put-number-at : ℕ → In 1 put-number-kinds.ps
+put-number-at t =
+    and 1 put-number-kinds.ps (is 1 put-number-kinds.ps μ-put-number t) put-number.Pre
+
+abbrev put-number-below : ℕ → In 1 put-number-kinds.ps
+put-number-below t =
+    and 1 put-number-kinds.ps (falls 1 put-number-kinds.ps _<_ μ-put-number t) put-number.Pre
+
+put-number-cast-last : (t : ℕ) → put-number-lts.Need-cast-last (
+  put-byte-reads.Asked,
+  put-byte-reads.Learnt,
+  put-number-below t,
+  put-number.Post,
+) (put-number-at t) put-number.Post
+put-number-cast-last t c = search needs
+
+put-number-add-last : (t : ℕ) → put-number-lts.Need-add-last (
+  put-byte-reads.Asked,
+  put-byte-reads.Learnt,
+  put-number-below t,
+  put-number.Post,
+) (put-number-at t) put-number.Post
+put-number-add-last t c = search needs
+
+put-number-put-byte-requires : (t : ℕ) → put-number-lts.Need-put-byte-requires (
+  put-byte-reads.Asked,
+  put-byte-reads.Learnt,
+  put-number-below t,
+  put-number.Post,
+) (put-number-at t) put-number.Post
+put-number-put-byte-requires t c κs = omega (arith, decimal-spells (c .before .before .before .args .n) .some, c .before .before .before .pre .1)
+
+put-number-same-length : (t : ℕ) → put-number-lts.Need-same-length (
+  put-byte-reads.Asked,
+  put-byte-reads.Learnt,
+  put-number-below t,
+  put-number.Post,
+) (put-number-at t) put-number.Post
+put-number-same-length t c = search needs
+
+put-number-returns : (t : ℕ) → put-number-lts.Need-returns (
+  put-byte-reads.Asked,
+  put-byte-reads.Learnt,
+  put-number-below t,
+  put-number.Post,
+) (put-number-at t) put-number.Post
+put-number-returns t c = put-digit (c .before .before .before .before .before .before .args .n) (omega (arith, c .before .before .before .before .if1 .taken)) (c .before .before .put-byte .ensures)
+
+put-number-put-number-requires : (t : ℕ) → put-number-lts.Need-put-number-requires (
+  put-byte-reads.Asked,
+  put-byte-reads.Learnt,
+  put-number-below t,
+  put-number.Post,
+) (put-number-at t) put-number.Post
+put-number-put-number-requires t c κs = (omega (arith, c .before .before .before .pre .0), omega (arith, tenth-shorter (c .before .before .before .args .n) (omega (arith, c .before .if1 .left)), c .before .before .before .pre .1))
+
+put-number-put-byte-requires-2 : (t : ℕ) → put-number-lts.Need-put-byte-requires-2 (
+  put-byte-reads.Asked,
+  put-byte-reads.Learnt,
+  put-number-below t,
+  put-number.Post,
+) (put-number-at t) put-number.Post
+put-number-put-byte-requires-2 t c κs = omega (arith, tenth-shorter (c .before .before .before .before .before .before .before .args .n) (omega (arith, c .before .before .before .before .before .if1 .left)), c .before .before .before .before .before .before .before .pre .1, c .before .before .before .put-number .ensures .next, c .before .before .before .put-number .kept .0)
+
+put-number-same-length-2 : (t : ℕ) → put-number-lts.Need-same-length-2 (
+  put-byte-reads.Asked,
+  put-byte-reads.Learnt,
+  put-number-below t,
+  put-number.Post,
+) (put-number-at t) put-number.Post
+put-number-same-length-2 t c = search needs
+
+put-number-returns-2 : (t : ℕ) → put-number-lts.Need-returns-2 (
+  put-byte-reads.Asked,
+  put-byte-reads.Learnt,
+  put-number-below t,
+  put-number.Post,
+) (put-number-at t) put-number.Post
+put-number-returns-2 t c = put-last (c .before .before .before .before .before .before .before .before .before .before .args .n) (omega (arith, c .before .before .before .before .before .before .before .before .if1 .left)) (c .before .before .before .before .before .before .put-number .ensures) (c .before .before .put-byte2 .ensures)
+
+pub +put-number-spec : {M : Type 1} → statement M
++put-number-spec = close μ-put-number λ t. put-number-lts.spec (
+  put-byte-reads.Asked,
+  put-byte-reads.Learnt,
+  put-number-below t,
+  put-number.Post,
+)
+    (put-number-at t)
+    put-number.Post
+    (put-number-cast-last t)
+    (put-number-add-last t)
+    (put-number-put-byte-requires t)
+    (put-number-same-length t)
+    (put-number-returns t)
+    (put-number-put-number-requires t)
+    (put-number-put-byte-requires-2 t)
+    (put-number-same-length-2 t)
+    (put-number-returns-2 t)

@@ -1,0 +1,5 @@
+pub mod Printed
+pub mod Decimals
+pub mod Puts
+pub mod Answers
+pub mod PrintedCases

@@ -1,0 +1,53 @@
+-- Document 01's printed line and others, computed from the definitions. Rests on Printed and Answers, on plain's cases for the records W and D, and on ultimattt's for D's results.
+use mathlib.Core.Path.{_≡_, refl, ap, _∙_}
+use mathlib.Core.List.{List, [], _∷_, _++_}
+use Prim.Native.Nat.{ℕ}
+use native.Mathlib.Omega.{arith}
+use lib.ListN.{length, getD, length-append}
+use lib.Seq.{take-at, getD-at}
+use Rattle.rules.specs.Rules.{hasLine, state, board, boardStates, gameState}
+use Rattle.rules.specs.Record.{bitAt, positionOf, positionRefusal, refusal}
+use Rattle.machine.specs.Machine.{True}
+use Rattle.plain.specs.Cases.{W, D, fields, computedSearch}
+use Rattle.ultimattt.specs.Searches.{Searched, Answered, Refused, rangeRefusal, searchRefusal, searchCall}
+use Rattle.ultimattt.specs.Cases.{cases}
+use Rattle.printed.specs.Printed.{byte, decimal, fieldsLine, refusedLine, answerLine, judgeWords, judgeLimits, judgeLine}
+use Rattle.printed.specs.Answers.{wrong-length, right-length}
+
+-- The line of 21 bytes and a rule, from the search's answer
+line-of : (bytes : List ℕ) (rule : ℕ) (s : Searched) → length bytes ≡ 21 → searchCall bytes judgeWords rule judgeLimits ≡ s → judgeLine (bytes ++ byte rule) ≡ answerLine s
+line-of bytes rule s e q =
+    right-length (bytes ++ byte rule) (omega (arith, length-append bytes (byte rule), e))
+    ∙ ap (λ b. answerLine (searchCall b judgeWords (getD (bytes ++ byte rule) 21 0) judgeLimits)) (take-at bytes (byte rule) 21 e)
+    ∙ ap (λ n. answerLine (searchCall bytes judgeWords n judgeLimits)) (getD-at bytes rule [] 0 21 e)
+    ∙ ap answerLine q
+
+W-won : searchCall W judgeWords 0 judgeLimits ≡ Answered (fields True 0 2147483648 2 1 1 0 1 0)
+unfolding searchCall searchRefusal rangeRefusal refusal positionRefusal positionOf bitAt hasLine state board boardStates gameState computedSearch
+W-won = refl
+
+W-rule : searchCall W judgeWords 3 judgeLimits ≡ Refused 10
+unfolding searchCall searchRefusal rangeRefusal refusal positionRefusal positionOf bitAt hasLine state board boardStates gameState
+W-rule = refl
+
+pub record Lines : Type 0 where
+  -- `True 0 2147483648 2 1 1 0 1 0`; a newline ends each
+  pub W-0 : judgeLine (W ++ byte 0) ≡ 84 ∷ 114 ∷ 117 ∷ 101 ∷ 32 ∷ 48 ∷ 32 ∷ 50 ∷ 49 ∷ 52 ∷ 55 ∷ 52 ∷ 56 ∷ 51 ∷ 54 ∷ 52 ∷ 56 ∷ 32 ∷ 50 ∷ 32 ∷ 49 ∷ 32 ∷ 49 ∷ 32 ∷ 48 ∷ 32 ∷ 49 ∷ 32 ∷ 48 ∷ 10 ∷ []
+  -- `False 2147483648 0 1 0 0 0 0 0`, twice; `True 0 2147483648 1 0 0 0 0 0`
+  pub D-0 : judgeLine (D ++ byte 0) ≡ 70 ∷ 97 ∷ 108 ∷ 115 ∷ 101 ∷ 32 ∷ 50 ∷ 49 ∷ 52 ∷ 55 ∷ 52 ∷ 56 ∷ 51 ∷ 54 ∷ 52 ∷ 56 ∷ 32 ∷ 48 ∷ 32 ∷ 49 ∷ 32 ∷ 48 ∷ 32 ∷ 48 ∷ 32 ∷ 48 ∷ 32 ∷ 48 ∷ 32 ∷ 48 ∷ 10 ∷ []
+  pub D-1 : judgeLine (D ++ byte 1) ≡ 70 ∷ 97 ∷ 108 ∷ 115 ∷ 101 ∷ 32 ∷ 50 ∷ 49 ∷ 52 ∷ 55 ∷ 52 ∷ 56 ∷ 51 ∷ 54 ∷ 52 ∷ 56 ∷ 32 ∷ 48 ∷ 32 ∷ 49 ∷ 32 ∷ 48 ∷ 32 ∷ 48 ∷ 32 ∷ 48 ∷ 32 ∷ 48 ∷ 32 ∷ 48 ∷ 10 ∷ []
+  pub D-2 : judgeLine (D ++ byte 2) ≡ 84 ∷ 114 ∷ 117 ∷ 101 ∷ 32 ∷ 48 ∷ 32 ∷ 50 ∷ 49 ∷ 52 ∷ 55 ∷ 52 ∷ 56 ∷ 51 ∷ 54 ∷ 52 ∷ 56 ∷ 32 ∷ 49 ∷ 32 ∷ 48 ∷ 32 ∷ 48 ∷ 32 ∷ 48 ∷ 32 ∷ 48 ∷ 32 ∷ 48 ∷ 10 ∷ []
+  -- `refused 10`; `refused 1`
+  pub W-3 : judgeLine (W ++ byte 3) ≡ 114 ∷ 101 ∷ 102 ∷ 117 ∷ 115 ∷ 101 ∷ 100 ∷ 32 ∷ 49 ∷ 48 ∷ 10 ∷ []
+  pub none : judgeLine [] ≡ 114 ∷ 101 ∷ 102 ∷ 117 ∷ 115 ∷ 101 ∷ 100 ∷ 32 ∷ 49 ∷ 10 ∷ []
+
+pub lines : Lines
+unfolding answerLine fieldsLine refusedLine decimal
+lines = record {
+  W-0 = line-of W 0 _ refl W-won;
+  D-0 = line-of D 0 _ refl (cases .D-0-False);
+  D-1 = line-of D 1 _ refl (cases .D-1-False);
+  D-2 = line-of D 2 _ refl (cases .D-2-True);
+  W-3 = line-of W 3 _ refl W-rule;
+  none = wrong-length [] (λ e. omega (arith, e));
+}

@@ -1,0 +1,167 @@
+-- The cases of search's answer as the definitions have them, and its checks. Rests on Searches and on pn's results.
+use mathlib.Core.Path.{_≡_, refl, ap, sym, _∙_}
+use mathlib.Core.Bool.{Bool, true, false, cond, not, _&&_, true≢false}
+use mathlib.Core.List.{List, [], _∷_}
+use Prim.Native.Nat.{ℕ, zero, suc, _*_, _≤_, _<_}
+use native.Mathlib.Omega.{arith}
+use lib.Dec.{ltb, leb}
+use lib.ListN.{length, drop, getD}
+use borrow.Author.Tests.{ne-eqb, ltb-true, leb-true, le-ltb, lt-ltb, le-leb, lt-leb}
+use Rattle.rules.specs.Record.{positionOf, refusal}
+use Rattle.rules.specs.Checks.{loads, loads-accepted}
+use Rattle.game.specs.Words as game-words
+use Rattle.machine.specs.Machine.{Result}
+use Rattle.plain.specs.Plain.{plainSearch}
+use Rattle.words.specs.Words.{capacity, Beyond}
+use Rattle.pn.specs.Going.{resultOf}
+use Rattle.pn.specs.Searches.{Searchable}
+use Rattle.ultimattt.specs.Searches.{poolMost, intervalMost, budgetMost, rules, Limits, inRange, settings, nodes, rangeRefusal, searchRefusal, Searched, answerTo, searchCall, Untouched}
+use Rattle.ultimattt.specs.Searches.{Answered as answers, Refused as refuses}
+use Rattle.ultimattt.specs.Searches as calls
+use Rattle.ultimattt.specs.Searches.{Judged, judgedAs, fullOf, fullCall}
+use Rattle.ultimattt.specs.declared.searches.FullVerdict as full
+use Rattle.ultimattt.specs.declared.searches.FullVerdict.the-variants as full-variants
+use Rattle.ultimattt.specs.declared.searches.FullOutcome.{FullOutcome}
+use Rattle.ultimattt.specs.declared.searches.FullOutcome.the-variants.{Full as FullIn, TurnedBack}
+use Rattle.ultimattt.specs.TwoSearches.{accepts}
+use Rattle.ultimattt.specs.declared.searches.SearchLimits.{SearchLimits}
+use Rattle.ultimattt.specs.declared.searches.Outcome.{Outcome}
+use Rattle.ultimattt.specs.declared.searches.Outcome.the-variants.{Answered, Refused}
+
+abbrev pub limitsOf : SearchLimits → Limits
+limitsOf l = record { limit = l .limit; budget = l .budget; interval = l .interval }
+
+abbrev pub searched : Outcome → Searched
+searched (Answered r) = answers (resultOf r)
+searched (Refused n) = refuses n
+
+abbrev pub fullVerdict : full.FullVerdict → calls.FullVerdict
+fullVerdict full-variants.Win = calls.Win
+fullVerdict full-variants.Loss = calls.Loss
+fullVerdict full-variants.Draw = calls.Draw
+fullVerdict full-variants.AtLeastDraw = calls.AtLeastDraw
+fullVerdict full-variants.AtMostDraw = calls.AtMostDraw
+fullVerdict full-variants.Undecided = calls.Undecided
+
+abbrev pub judged : FullOutcome → Judged
+judged (FullIn v r s) = calls.Full (fullVerdict v) (resultOf r) (resultOf s)
+judged (TurnedBack n) = calls.Turned n
+
+-- Checks 8 to 10, each from the test that decides
+module _ (n rule : ℕ) (L : Limits) where
+  pub range-none : n < 1 → 8 ≡ rangeRefusal n rule L
+  unfolding rangeRefusal
+  range-none h = rw (lt-ltb n 1 h)
+
+  module _ (some : 1 ≤ n) where
+    pub range-many : poolMost < n → 9 ≡ rangeRefusal n rule L
+    unfolding rangeRefusal
+    range-many h = rw (le-ltb n 1 some, lt-ltb poolMost n h)
+
+    module _ (few : n ≤ poolMost) where
+      pub range-numbers : (b : Bool) → (ltb rule rules && inRange L) ≡ b → cond (not b) 10 0 ≡ rangeRefusal n rule L
+      unfolding rangeRefusal
+      range-numbers b e = rw (le-ltb n 1 some, le-ltb poolMost n few, e)
+
+      pub range-rule : 2 < rule → 10 ≡ rangeRefusal n rule L
+      range-rule h = range-numbers false (rw (le-ltb rule rules h))
+
+      module _ (in-rules : rule ≤ 2) where
+        pub range-interval-none : L .interval < 1 → 10 ≡ rangeRefusal n rule L
+        range-interval-none h = range-numbers false (rw (lt-ltb rule rules (omega arith), le-ltb 0 (L .interval) (omega arith)))
+
+        module _ (interval-some : 1 ≤ L .interval) where
+          pub range-interval-most : intervalMost < L .interval → 10 ≡ rangeRefusal n rule L
+          range-interval-most h = range-numbers false (rw (lt-ltb rule rules (omega arith), lt-ltb 0 (L .interval) (omega arith), lt-leb (L .interval) intervalMost h))
+
+          module _ (interval-most : L .interval ≤ intervalMost) where
+            pub range-budget : budgetMost < L .budget → 10 ≡ rangeRefusal n rule L
+            range-budget h = range-numbers false (rw (lt-ltb rule rules (omega arith), lt-ltb 0 (L .interval) (omega arith), le-leb (L .interval) intervalMost interval-most, lt-leb (L .budget) budgetMost h))
+
+            pub range-passed : L .budget ≤ budgetMost → 0 ≡ rangeRefusal n rule L
+            range-passed h = range-numbers true (rw (lt-ltb rule rules (omega arith), lt-ltb 0 (L .interval) (omega arith), le-leb (L .interval) intervalMost interval-most, le-leb (L .budget) budgetMost h))
+
+-- The answers, each from the check that decides
+module _ (bytes : List ℕ) (words rule : ℕ) (L : Limits) where
+  call-refused : (n : ℕ) → n ≡ searchRefusal bytes words rule L → (n ≡ 0 → ⊥) → refuses n ≡ searchCall bytes words rule L
+  unfolding searchCall
+  call-refused zero e z = absurd (z refl)
+  call-refused (suc n) e z = ap (λ k. answerTo k (plainSearch rule (settings words L) bytes)) e
+
+  pub search-refused : (n : ℕ) → n ≡ refusal bytes → (n ≡ 0 → ⊥) → refuses n ≡ searchCall bytes words rule L
+  unfolding searchRefusal
+  search-refused n e z = call-refused n (rw (← e, ne-eqb n 0 z)) z
+
+  module _ (accepted : refusal bytes ≡ 0) where
+    pub same : searchRefusal bytes words rule L ≡ rangeRefusal (nodes words) rule L
+    unfolding searchRefusal
+    same = rw accepted
+
+    pub search-out-of-range : (n : ℕ) → n ≡ rangeRefusal (nodes words) rule L → (n ≡ 0 → ⊥) → refuses n ≡ searchCall bytes words rule L
+    search-out-of-range n e z = call-refused n (e ∙ sym same) z
+
+    pub search-answered : rangeRefusal (nodes words) rule L ≡ 0 → (r : Result) → r ≡ plainSearch rule (settings words L) bytes → answers r ≡ searchCall bytes words rule L
+    unfolding searchCall
+    search-answered e r q = ap answers q ∙ ap (λ k. answerTo k (plainSearch rule (settings words L) bytes)) (sym (same ∙ e))
+
+-- Lists that are alike from a place on
+alike : (w v : List ℕ) → length v ≡ length w → ((j : ℕ) → getD v j 0 ≡ getD w j 0) → v ≡ w
+alike [] [] e h = refl
+alike [] (y ∷ v) e h = absurd (omega (arith, e))
+alike (x ∷ w) [] e h = absurd (omega (arith, e))
+alike (x ∷ w) (y ∷ v) e h = let q : y ≡ x = h 0 in rw (q, alike w v (omega (arith, e)) (λ j. h (suc j)))
+
+drop-alike : (k : ℕ) (w v : List ℕ) → length v ≡ length w → ((j : ℕ) → k ≤ j → getD v j 0 ≡ getD w j 0) → drop k v ≡ drop k w
+drop-alike zero w v e h = alike w v e (λ j. h j (omega arith))
+drop-alike (suc k) [] [] e h = refl
+drop-alike (suc k) [] (y ∷ v) e h = absurd (omega (arith, e))
+drop-alike (suc k) (x ∷ w) [] e h = absurd (omega (arith, e))
+drop-alike (suc k) (x ∷ w) (y ∷ v) e h = drop-alike k w v (omega (arith, e)) (λ j l. h (suc j) (omega (arith, l)))
+
+pub untouched : (w v : List ℕ) → length v ≡ length w → Beyond w v → Untouched w v
+untouched w v long past = (long, drop-alike (capacity w * 5) w v long past)
+
+-- What the search asks for, once every check is passed
+both : (a b : Bool) → (a && b) ≡ true → (a ≡ true) × (b ≡ true)
+both true b e = (refl, e)
+both false b e = absurd (true≢false (sym e))
+
+pub to-search : (bytes g w : List ℕ) (rule : ℕ) (L : Limits) → game-words.Holds (positionOf bytes) g 0 → refusal bytes ≡ 0 → rangeRefusal (nodes (length w)) rule L ≡ 0
+    → Searchable g w (record { rule = rule; limit = L .limit; budget = L .budget; interval = L .interval })
+to-search bytes g w rule L holds none passed =
+    let a = accepts bytes (length w) rule L (same bytes (length w) rule L none ∙ passed) in
+    let n = both (ltb rule rules) (inRange L) (a .limits) in
+    let k = both (ltb 0 (L .interval) && leb (L .interval) intervalMost) (leb (L .budget) budgetMost) (n .1) in
+    let i = both (ltb 0 (L .interval)) (leb (L .interval) intervalMost) (k .0) in
+    record {
+      startable = record { pos = positionOf bytes; holds = holds; accepted = loads-accepted bytes (loads bytes none); some = omega (arith, a .range .some); few = omega (arith, a .range .most) };
+      ranges = record {
+        some = omega (arith, a .range .some);
+        few = omega (arith, a .range .most);
+        interval-some = ltb-true 0 (L .interval) (i .0);
+        budget-most = leb-true (L .budget) budgetMost (k .1);
+        rule-few = ltb-true rule rules (n .0);
+      };
+    }
+
+-- The answers of full verdict, each from the check that decides
+module _ (bytes : List ℕ) (words : ℕ) (L : Limits) where
+  turned : (n : ℕ) → n ≡ searchRefusal bytes words 0 L → (n ≡ 0 → ⊥) → calls.Turned n ≡ fullCall bytes words L
+  unfolding fullCall
+  turned zero e z = absurd (z refl)
+  turned (suc n) e z = ap (λ k. judgedAs k (plainSearch 1 (settings words L) bytes) (plainSearch 2 (settings words L) bytes)) e
+
+  pub full-refused : (n : ℕ) → n ≡ refusal bytes → (n ≡ 0 → ⊥) → calls.Turned n ≡ fullCall bytes words L
+  unfolding searchRefusal
+  full-refused n e z = turned n (rw (← e, ne-eqb n 0 z)) z
+
+  module _ (accepted : refusal bytes ≡ 0) where
+    pub full-out-of-range : (n : ℕ) → n ≡ rangeRefusal (nodes words) 0 L → (n ≡ 0 → ⊥) → calls.Turned n ≡ fullCall bytes words L
+    full-out-of-range n e z = turned n (e ∙ sym (same bytes words 0 L accepted)) z
+
+    pub full-answered : rangeRefusal (nodes words) 0 L ≡ 0 → (v : calls.FullVerdict) (r s : Result) → v ≡ fullOf (r .verdict) (s .verdict) → r ≡ plainSearch 1 (settings words L) bytes
+        → s ≡ plainSearch 2 (settings words L) bytes → calls.Full v r s ≡ fullCall bytes words L
+    unfolding fullCall
+    full-answered e v r s ev er es =
+        ap (λ u. calls.Full u r s) ev ∙ ap (λ t. judgedAs 0 t s) er ∙ ap (judgedAs 0 (plainSearch 1 (settings words L) bytes)) es
+        ∙ ap (λ k. judgedAs k (plainSearch 1 (settings words L) bytes) (plainSearch 2 (settings words L) bytes)) (sym (same bytes words 0 L accepted ∙ e))

@@ -1,0 +1,216 @@
+// The calls that lend a pool, search and full verdict: each reads the rest of its line, from the place after the record on, and runs the call.
+ghost use Prim.Native.Nat.{_≤_};
+ghost use mathlib.Core.Path.{_≡_};
+ghost use mathlib.Core.Bool.{true};
+ghost use Rattle.vectors.specs.declared.answers.Outcome.the-variants.{Agreed};
+use crate::answers;
+use crate::fields;
+use crate::line;
+use answers::Outcome;
+use answers::Stored;
+use fields::Place;
+use line::Number;
+use ultimattt::exports::FullAnswer;
+use ultimattt::exports::SearchAnswer;
+
+// The most nodes that a pool is lent with: `fields::fresh_pool` has five words for each, and four more.
+const MOST_NODES: u64 = 4096;
+
+// The numbers that both calls have, and the place after the arrow that follows them.
+struct Settings {
+    nodes: u64,
+    limit: u64,
+    budget: u64,
+    interval: u64,
+    place: usize,
+}
+
+enum Reading {
+    Read(Settings),
+    Unreadable,
+}
+
+// `POOL-NODES LIMIT BUDGET INTERVAL =>`
+fn read_settings(s: &[u8], at: usize) -> Reading {
+    let Number::Value(nodes, after_nodes) = line::read_number(s, at) else {
+        return Reading::Unreadable;
+    };
+    let Number::Value(limit, after_limit) = line::read_number(s, after_nodes) else {
+        return Reading::Unreadable;
+    };
+    let Number::Value(budget, after_budget) = line::read_number(s, after_limit) else {
+        return Reading::Unreadable;
+    };
+    let Number::Value(interval, after_interval) = line::read_number(s, after_budget) else {
+        return Reading::Unreadable;
+    };
+    let arrow = line::next_word(s, after_interval);
+    let place = arrow.end;
+    if line::is_word(s, arrow, b"=>") {
+        return Reading::Read(Settings {
+            nodes,
+            limit,
+            budget,
+            interval,
+            place,
+        });
+    }
+    Reading::Unreadable
+}
+
+// An outcome, if the rest agreed too.
+fn if_also(outcome: Outcome, rest: bool) -> Outcome
+    ensures { λ r. ⌜ (r ≡ Agreed → (outcome ≡ Agreed) × (rest ≡ true)) × (outcome ≡ Agreed → rest ≡ true → r ≡ Agreed) ⌝ }
+{
+    match outcome {
+        Outcome::Agreed => {
+            if rest {
+                Outcome::Agreed
+            } else {
+                Outcome::Differs
+            }
+        }
+        Outcome::Differs => Outcome::Differs,
+        Outcome::Unreadable => Outcome::Unreadable,
+    }
+}
+
+// The first place of a pool that a call may not write, by its code.
+fn closed_from(code: u32, nodes: usize) -> usize
+    requires { ⌜ nodes ≤ 4096 ⌝ }
+{
+    if code == 0 { nodes * 5 } else { 0 }
+}
+
+// The answer after a place: a refusal, or nine fields, which are put into want.
+fn read_search(s: &[u8], at: usize, want: &mut [u64; 9]) -> Stored {
+    let w = line::next_word(s, at);
+    if line::is_word(s, w, b"refused") {
+        return answers::refusal(s, w.end);
+    }
+    let Place::At(end) = fields::read_fields(s, at, want) else {
+        return Stored::Unreadable;
+    };
+    answers::ended(s, end, 0, 0, 0)
+}
+
+// Compares what search gave with the answer after a place. With a refusal all fields are 0.
+fn settle_search(s: &[u8], at: usize, got: SearchAnswer) -> Outcome {
+    let mut want = [0u64; 9];
+    let stored = read_search(s, at, &mut want);
+    let result = got.result;
+    let given = fields::numbers(result);
+    let outcome = answers::settle_numbers(stored, got.code as u64, got.index, 0);
+    if_also(outcome, fields::same(&want, &given))
+}
+
+// `search RECORD RULE POOL-NODES LIMIT BUDGET INTERVAL => FIELDS`
+pub fn search(s: &[u8], at: usize, record: &[u8]) -> Outcome {
+    let Number::Value(rule, next) = line::read_number(s, at) else {
+        return Outcome::Unreadable;
+    };
+    let Reading::Read(x) = read_settings(s, next) else {
+        return Outcome::Unreadable;
+    };
+    if MOST_NODES < x.nodes {
+        return Outcome::Unreadable;
+    }
+    let nodes = x.nodes as usize;
+    let length = nodes * 5 + nodes % 5;
+    let mut pool = fields::fresh_pool();
+    let got = ultimattt::exports::uttt_search(
+        record,
+        &mut pool[..length],
+        rule,
+        x.limit,
+        x.budget,
+        x.interval,
+    );
+    let outcome = settle_search(s, x.place, got);
+    if_also(
+        outcome,
+        fields::untouched(&pool, closed_from(got.code, nodes)),
+    )
+}
+
+// The full verdict that the next word names.
+fn read_name(s: &[u8], at: usize) -> Number {
+    let w = line::next_word(s, at);
+    let end = w.end;
+    if line::is_word(s, w, b"unknown") {
+        return Number::Value(0, end);
+    }
+    if line::is_word(s, w, b"win") {
+        return Number::Value(1, end);
+    }
+    if line::is_word(s, w, b"loss") {
+        return Number::Value(2, end);
+    }
+    if line::is_word(s, w, b"draw") {
+        return Number::Value(3, end);
+    }
+    if line::is_word(s, w, b"at-least-draw") {
+        return Number::Value(4, end);
+    }
+    if line::is_word(s, w, b"at-most-draw") {
+        return Number::Value(5, end);
+    }
+    Number::Unreadable
+}
+
+// The answer after a place: a refusal, or a full verdict and nine fields twice, which are put into first and second.
+fn read_full(s: &[u8], at: usize, first: &mut [u64; 9], second: &mut [u64; 9]) -> Stored {
+    let w = line::next_word(s, at);
+    if line::is_word(s, w, b"refused") {
+        return answers::refusal(s, w.end);
+    }
+    let Number::Value(verdict, next) = read_name(s, at) else {
+        return Stored::Unreadable;
+    };
+    let Place::At(middle) = fields::read_barred(s, next, first) else {
+        return Stored::Unreadable;
+    };
+    let Place::At(end) = fields::read_barred(s, middle, second) else {
+        return Stored::Unreadable;
+    };
+    answers::ended(s, end, 0, 0, verdict)
+}
+
+// Compares what full verdict gave with the answer after a place. With a refusal the verdict and all fields are 0.
+fn settle_full(s: &[u8], at: usize, got: FullAnswer) -> Outcome {
+    let mut want_first = [0u64; 9];
+    let mut want_second = [0u64; 9];
+    let stored = read_full(s, at, &mut want_first, &mut want_second);
+    let first = got.first;
+    let second = got.second;
+    let given_first = fields::numbers(first);
+    let given_second = fields::numbers(second);
+    let outcome = answers::settle_numbers(stored, got.code as u64, got.index, got.verdict as u64);
+    let with_first = if_also(outcome, fields::same(&want_first, &given_first));
+    if_also(with_first, fields::same(&want_second, &given_second))
+}
+
+// `full RECORD POOL-NODES LIMIT BUDGET INTERVAL => VERDICT | FIELDS | FIELDS`
+pub fn full(s: &[u8], at: usize, record: &[u8]) -> Outcome {
+    let Reading::Read(x) = read_settings(s, at) else {
+        return Outcome::Unreadable;
+    };
+    if MOST_NODES < x.nodes {
+        return Outcome::Unreadable;
+    }
+    let nodes = x.nodes as usize;
+    let length = nodes * 5 + nodes % 5;
+    let mut pool = fields::fresh_pool();
+    let got = ultimattt::exports::uttt_full_verdict(
+        record,
+        &mut pool[..length],
+        x.limit,
+        x.budget,
+        x.interval,
+    );
+    let outcome = settle_full(s, x.place, got);
+    if_also(
+        outcome,
+        fields::untouched(&pool, closed_from(got.code, nodes)),
+    )
+}
