@@ -11,7 +11,7 @@ CALLS ?= 200000
 CARGO = cargo
 BUILD = $(CARGO) build --manifest-path harness/Cargo.toml --release --offline --locked -j $(JOBS)
 
-.PHONY: test judge library uttt answers oracle-test compare
+.PHONY: test judge library uttt answers oracle-test compare bindings-test examples
 
 # Every crate proved from nothing, every must-fail edit refused, every program's output as stored. Nothing is printed after rt's last line.
 test:
@@ -43,3 +43,25 @@ oracle-test:
 compare: library
 	$(BUILD) -p compare
 	harness/target/release/compare $(SEED) $(CALLS)
+
+# The Rust wrapper's own tests, over the library.
+bindings-test: library
+	$(CARGO) test --manifest-path bindings/rust/Cargo.toml --offline --locked -j $(JOBS)
+
+# The example programs, built and run: without a record (W of document 01), on D, on E, on D with target 0. Both have to say what is stored.
+EXAMPLES = target/examples/adjudicate examples/rust/target/release/adjudicate
+EXAMPLE_RECORDS = \
+	7AB400AC0054001500054000A8002A000A80054000 \
+	780000000000000000000000000000000000000000 \
+	02B400AC0054001500054000A8002A000A80054000
+
+examples: library
+	@mkdir -p target/examples
+	$(CC) -std=c99 -O2 -Wall -Wextra -Wpedantic -Werror -Iinclude examples/c/adjudicate.c $(ULTIMATTT_LIB)/libultimattt.a -o target/examples/adjudicate
+	$(CARGO) build --manifest-path examples/rust/Cargo.toml --release --offline --locked -j $(JOBS)
+	@for program in $(EXAMPLES); do \
+		echo "$$program"; \
+		{ $$program; for record in $(EXAMPLE_RECORDS); do $$program $$record; done; } >target/examples/words.txt 2>&1; \
+		cat target/examples/words.txt; \
+		diff examples/expected.txt target/examples/words.txt || exit 1; \
+	done

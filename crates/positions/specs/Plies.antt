@@ -52,8 +52,8 @@ copying-step src a ws vs b k x c room e = record {
     go i l (yes q) = rw q (getD-set-same vs (b + k) x 0 (omega (arith, c .long)) ∙ e)
     go i l (no n) = getD-set-other vs (b + k) (b + i) x 0 (λ q. n (omega arith)) ∙ c .copied i (omega arith)
 
-pub copied-ply : (ws vs : List ℕ) (d : ℕ) → Copying ws (d * 24) ws vs (d * 24 + 24) 23 → Copied d ws vs
-copied-ply ws vs d c = record { long = c .long; below = c .below; copied = c .copied }
+pub copied-ply : (ws vs : List ℕ) (d : ℕ) → Copying ws (d * 24) ws vs (d * 24 + 24) 24 → Copied d ws vs
+copied-ply ws vs d c = record { long = c .long; below = c .below; copied = λ i l. c .copied i (omega arith) }
 
 pub copied-root : (src ws vs : List ℕ) → Copying src 0 ws vs 0 23 → 23 ≤ length ws → (p : Position) → Holds p src 0 → Holds p vs 0
 copied-root src ws vs c room p h = holds-agree p src vs 0 0 (omega (arith, c .long)) (c .copied) h

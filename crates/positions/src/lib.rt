@@ -14,13 +14,13 @@ use game::Move;
 // 82 positions, one a ply and the root, of 24 words each.
 pub const POSITIONS: usize = 1968;
 
-// Copies the words of ply d to the next.
+// Copies the words of ply d to the next: all 24, the last of which holds nothing, since three moves of eight words are quicker.
 fn copy_ply(positions: &mut [u16; POSITIONS], d: usize)
     requires { ⌜ (length (now positions) ≡ 1968) × (d < 81) ⌝ }
     ensures { λ _. ⌜ Copied d (now (positions .entry)) (now (positions .exit)) ⌝ }
 {
     let base = d * 24;
-    for i in 0..23 {
+    for i in 0..24 {
         positions[base + 24 + i] = positions[base + i];
     }
 }

@@ -15,7 +15,7 @@ use Rattle.plain.specs.Plain.{plainSearch}
 use Rattle.words.specs.Words.{capacity, Beyond}
 use Rattle.pn.specs.Going.{resultOf}
 use Rattle.pn.specs.Searches.{Searchable}
-use Rattle.ultimattt.specs.Searches.{poolMost, intervalMost, budgetMost, rules, Limits, inRange, settings, nodes, rangeRefusal, searchRefusal, Searched, answerTo, searchCall, Untouched}
+use Rattle.ultimattt.specs.Searches.{poolLeast, poolMost, intervalLeast, intervalMost, budgetMost, rules, Limits, inRange, settings, nodes, rangeRefusal, searchRefusal, Searched, answerTo, searchCall, Untouched}
 use Rattle.ultimattt.specs.Searches.{Answered as answers, Refused as refuses}
 use Rattle.ultimattt.specs.Searches as calls
 use Rattle.ultimattt.specs.Searches.{Judged, judgedAs, fullOf, fullCall}
@@ -23,7 +23,7 @@ use Rattle.ultimattt.specs.declared.searches.FullVerdict as full
 use Rattle.ultimattt.specs.declared.searches.FullVerdict.the-variants as full-variants
 use Rattle.ultimattt.specs.declared.searches.FullOutcome.{FullOutcome}
 use Rattle.ultimattt.specs.declared.searches.FullOutcome.the-variants.{Full as FullIn, TurnedBack}
-use Rattle.ultimattt.specs.TwoSearches.{accepts}
+use Rattle.ultimattt.specs.TwoSearches.{accepts, accepts-refusal, answered}
 use Rattle.ultimattt.specs.declared.searches.SearchLimits.{SearchLimits}
 use Rattle.ultimattt.specs.declared.searches.Outcome.{Outcome}
 use Rattle.ultimattt.specs.declared.searches.Outcome.the-variants.{Answered, Refused}
@@ -49,37 +49,37 @@ judged (TurnedBack n) = calls.Turned n
 
 -- Checks 8 to 10, each from the test that decides
 module _ (n rule : ℕ) (L : Limits) where
-  pub range-none : n < 1 → 8 ≡ rangeRefusal n rule L
+  pub range-none : n < poolLeast → 8 ≡ rangeRefusal n rule L
   unfolding rangeRefusal
-  range-none h = rw (lt-ltb n 1 h)
+  range-none h = rw (lt-ltb n poolLeast h)
 
-  module _ (some : 1 ≤ n) where
+  module _ (some : poolLeast ≤ n) where
     pub range-many : poolMost < n → 9 ≡ rangeRefusal n rule L
     unfolding rangeRefusal
-    range-many h = rw (le-ltb n 1 some, lt-ltb poolMost n h)
+    range-many h = rw (le-ltb n poolLeast some, lt-ltb poolMost n h)
 
     module _ (few : n ≤ poolMost) where
       pub range-numbers : (b : Bool) → (ltb rule rules && inRange L) ≡ b → cond (not b) 10 0 ≡ rangeRefusal n rule L
       unfolding rangeRefusal
-      range-numbers b e = rw (le-ltb n 1 some, le-ltb poolMost n few, e)
+      range-numbers b e = rw (le-ltb n poolLeast some, le-ltb poolMost n few, e)
 
       pub range-rule : 2 < rule → 10 ≡ rangeRefusal n rule L
       range-rule h = range-numbers false (rw (le-ltb rule rules h))
 
       module _ (in-rules : rule ≤ 2) where
-        pub range-interval-none : L .interval < 1 → 10 ≡ rangeRefusal n rule L
-        range-interval-none h = range-numbers false (rw (lt-ltb rule rules (omega arith), le-ltb 0 (L .interval) (omega arith)))
+        pub range-interval-none : L .interval < intervalLeast → 10 ≡ rangeRefusal n rule L
+        range-interval-none h = range-numbers false (rw (lt-ltb rule rules (omega arith), lt-leb intervalLeast (L .interval) h))
 
-        module _ (interval-some : 1 ≤ L .interval) where
+        module _ (interval-some : intervalLeast ≤ L .interval) where
           pub range-interval-most : intervalMost < L .interval → 10 ≡ rangeRefusal n rule L
-          range-interval-most h = range-numbers false (rw (lt-ltb rule rules (omega arith), lt-ltb 0 (L .interval) (omega arith), lt-leb (L .interval) intervalMost h))
+          range-interval-most h = range-numbers false (rw (lt-ltb rule rules (omega arith), le-leb intervalLeast (L .interval) interval-some, lt-leb (L .interval) intervalMost h))
 
           module _ (interval-most : L .interval ≤ intervalMost) where
             pub range-budget : budgetMost < L .budget → 10 ≡ rangeRefusal n rule L
-            range-budget h = range-numbers false (rw (lt-ltb rule rules (omega arith), lt-ltb 0 (L .interval) (omega arith), le-leb (L .interval) intervalMost interval-most, lt-leb (L .budget) budgetMost h))
+            range-budget h = range-numbers false (rw (lt-ltb rule rules (omega arith), le-leb intervalLeast (L .interval) interval-some, le-leb (L .interval) intervalMost interval-most, lt-leb (L .budget) budgetMost h))
 
             pub range-passed : L .budget ≤ budgetMost → 0 ≡ rangeRefusal n rule L
-            range-passed h = range-numbers true (rw (lt-ltb rule rules (omega arith), lt-ltb 0 (L .interval) (omega arith), le-leb (L .interval) intervalMost interval-most, le-leb (L .budget) budgetMost h))
+            range-passed h = range-numbers true (rw (lt-ltb rule rules (omega arith), le-leb intervalLeast (L .interval) interval-some, le-leb (L .interval) intervalMost interval-most, le-leb (L .budget) budgetMost h))
 
 -- The answers, each from the check that decides
 module _ (bytes : List ℕ) (words rule : ℕ) (L : Limits) where
@@ -131,37 +131,51 @@ pub to-search : (bytes g w : List ℕ) (rule : ℕ) (L : Limits) → game-words.
 to-search bytes g w rule L holds none passed =
     let a = accepts bytes (length w) rule L (same bytes (length w) rule L none ∙ passed) in
     let n = both (ltb rule rules) (inRange L) (a .limits) in
-    let k = both (ltb 0 (L .interval) && leb (L .interval) intervalMost) (leb (L .budget) budgetMost) (n .1) in
-    let i = both (ltb 0 (L .interval)) (leb (L .interval) intervalMost) (k .0) in
+    let k = both (leb intervalLeast (L .interval) && leb (L .interval) intervalMost) (leb (L .budget) budgetMost) (n .1) in
+    let i = both (leb intervalLeast (L .interval)) (leb (L .interval) intervalMost) (k .0) in
     record {
       startable = record { pos = positionOf bytes; holds = holds; accepted = loads-accepted bytes (loads bytes none); some = omega (arith, a .range .some); few = omega (arith, a .range .most) };
       ranges = record {
         some = omega (arith, a .range .some);
         few = omega (arith, a .range .most);
-        interval-some = ltb-true 0 (L .interval) (i .0);
+        interval-some = leb-true intervalLeast (L .interval) (i .0);
         budget-most = leb-true (L .budget) budgetMost (k .1);
         rule-few = ltb-true rule rules (n .0);
       };
     }
 
--- The answers of full verdict, each from the check that decides
+-- Two searches in one pool, one after the other
+pub untouched-twice : (w v u : List ℕ) → Untouched w v → Untouched v u → Untouched w u
+untouched-twice w v u a b =
+    (b .0 ∙ a .0, ap (λ n. drop (nodes n * 5) u) (sym (a .0)) ∙ b .1 ∙ ap (λ n. drop (nodes n * 5) v) (a .0) ∙ a .1)
+
+-- The answers of full verdict, from those of search under rules 1 and 2
 module _ (bytes : List ℕ) (words : ℕ) (L : Limits) where
-  turned : (n : ℕ) → n ≡ searchRefusal bytes words 0 L → (n ≡ 0 → ⊥) → calls.Turned n ≡ fullCall bytes words L
-  unfolding fullCall
-  turned zero e z = absurd (z refl)
-  turned (suc n) e z = ap (λ k. judgedAs k (plainSearch 1 (settings words L) bytes) (plainSearch 2 (settings words L) bytes)) e
+  -- the checks are search's, whichever of the three rules it has
+  same-checks : (rule : ℕ) → rule < rules → searchRefusal bytes words rule L ≡ searchRefusal bytes words 0 L
+  unfolding searchRefusal rangeRefusal
+  same-checks rule l = rw (lt-ltb rule rules l)
 
-  pub full-refused : (n : ℕ) → n ≡ refusal bytes → (n ≡ 0 → ⊥) → calls.Turned n ≡ fullCall bytes words L
-  unfolding searchRefusal
-  full-refused n e z = turned n (rw (← e, ne-eqb n 0 z)) z
+  pub full-refused : (n : ℕ) → refuses n ≡ searchCall bytes words 1 L → calls.Turned n ≡ fullCall bytes words L
+  unfolding searchCall fullCall
+  full-refused n e = go (searchRefusal bytes words 1 L) refl e
+    where
+      go : (k : ℕ) → searchRefusal bytes words 1 L ≡ k → refuses n ≡ answerTo k (plainSearch 1 (settings words L) bytes)
+          → calls.Turned n ≡ judgedAs (searchRefusal bytes words 0 L) (plainSearch 1 (settings words L) bytes) (plainSearch 2 (settings words L) bytes)
+      go zero t h = let z : _≡_ {A = ℕ} 0 1 = cc in absurd (omega arith)
+      go (suc k) t h = let i : n ≡ suc k = cc in rw (sym (same-checks 1 (omega arith)) ∙ t, i)
 
-  module _ (accepted : refusal bytes ≡ 0) where
-    pub full-out-of-range : (n : ℕ) → n ≡ rangeRefusal (nodes words) 0 L → (n ≡ 0 → ⊥) → calls.Turned n ≡ fullCall bytes words L
-    full-out-of-range n e z = turned n (e ∙ sym (same bytes words 0 L accepted)) z
+  module _ (r : Result) (e : answers r ≡ searchCall bytes words 1 L) where
+    passed : searchRefusal bytes words 0 L ≡ 0
+    passed = sym (same-checks 1 (omega arith)) ∙ accepts-refusal bytes words 1 L (answered bytes words 1 L r (sym e) .0)
 
-    pub full-answered : rangeRefusal (nodes words) 0 L ≡ 0 → (v : calls.FullVerdict) (r s : Result) → v ≡ fullOf (r .verdict) (s .verdict) → r ≡ plainSearch 1 (settings words L) bytes
-        → s ≡ plainSearch 2 (settings words L) bytes → calls.Full v r s ≡ fullCall bytes words L
+    pub full-not-refused : (n : ℕ) → refuses n ≡ searchCall bytes words 2 L → ⊥
+    unfolding searchCall
+    full-not-refused n f =
+        let h : refuses n ≡ answerTo 0 (plainSearch 2 (settings words L) bytes) = f ∙ ap (λ k. answerTo k (plainSearch 2 (settings words L) bytes)) (same-checks 2 (omega arith) ∙ passed) in
+        let z : _≡_ {A = ℕ} 0 1 = cc in
+        absurd (omega arith)
+
+    pub full-answered : (s : Result) → answers s ≡ searchCall bytes words 2 L → (v : calls.FullVerdict) → v ≡ fullOf (r .verdict) (s .verdict) → calls.Full v r s ≡ fullCall bytes words L
     unfolding fullCall
-    full-answered e v r s ev er es =
-        ap (λ u. calls.Full u r s) ev ∙ ap (λ t. judgedAs 0 t s) er ∙ ap (judgedAs 0 (plainSearch 1 (settings words L) bytes)) es
-        ∙ ap (λ k. judgedAs k (plainSearch 1 (settings words L) bytes) (plainSearch 2 (settings words L) bytes)) (sym (same bytes words 0 L accepted ∙ e))
+    full-answered s f v q = rw (passed, q, ← answered bytes words 1 L r (sym e) .1, ← answered bytes words 2 L s (sym f) .1)

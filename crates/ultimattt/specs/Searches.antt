@@ -11,8 +11,14 @@ use Rattle.machine.specs.Machine.{Settings, Result, Verdict, True, False, Unkno
 use Rattle.plain.specs.Plain.{plainSearch}
 
 -- The ends of the ranges: pool in nodes, interval, budget; rules are 0, 1 and 2.
+abbrev pub poolLeast : ℕ
+poolLeast = 1
+
 abbrev pub poolMost : ℕ
 poolMost = 16777216
+
+abbrev pub intervalLeast : ℕ
+intervalLeast = 1
 
 abbrev pub intervalMost : ℕ
 intervalMost = 1000000
@@ -40,11 +46,11 @@ settings words L = record { pool = nodes words; limit = L .limit; budget = L .bu
 
 -- Check 10, but for the rule.
 abbrev pub inRange : Limits → Bool
-inRange L = ltb 0 (L .interval) && leb (L .interval) intervalMost && leb (L .budget) budgetMost
+inRange L = leb intervalLeast (L .interval) && leb (L .interval) intervalMost && leb (L .budget) budgetMost
 
 -- Checks 8, 9 and 10: no node in the pool, too many, a number out of its range; or 0.
 unfoldable pub rangeRefusal : (nodes rule : ℕ) → Limits → ℕ
-rangeRefusal n rule L = cond (ltb n 1) 8 (cond (ltb poolMost n) 9 (cond (not (ltb rule rules && inRange L)) 10 0))
+rangeRefusal n rule L = cond (ltb n poolLeast) 8 (cond (ltb poolMost n) 9 (cond (not (ltb rule rules && inRange L)) 10 0))
 
 -- The number of the first check that turns a search back, or 0.
 unfoldable pub searchRefusal : (bytes : List ℕ) (words rule : ℕ) → Limits → ℕ

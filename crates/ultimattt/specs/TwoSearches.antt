@@ -13,7 +13,7 @@ use Rattle.machine.specs.Machine.{Result}
 use Rattle.machine.specs.Reached.{PoolInRange}
 use Rattle.plain.specs.Plain.{plainSearch}
 use Rattle.plain.specs.TwoSearches as plain-searches
-use Rattle.ultimattt.specs.Searches.{Limits, Answered, poolMost, rules, nodes, settings, inRange, rangeRefusal, searchRefusal, answerTo, searchCall}
+use Rattle.ultimattt.specs.Searches.{Limits, Answered, poolLeast, poolMost, rules, nodes, settings, inRange, rangeRefusal, searchRefusal, answerTo, searchCall}
 use Rattle.ultimattt.specs.ThirdCondition.{ThirdCondition}
 
 -- what an accepted search says of its pool and its result
@@ -30,22 +30,22 @@ pub accepts : (bytes : List ℕ) (words rule : ℕ) (L : Limits) → searchRefus
 unfolding searchRefusal rangeRefusal
 accepts bytes words rule L e =
     let a = first-zero (refusal bytes) _ e in
-    let b = passed (ltb (nodes words) 1) 7 _ (a .1) in
+    let b = passed (ltb (nodes words) poolLeast) 7 _ (a .1) in
     let c = passed (ltb poolMost (nodes words)) 8 _ (b .1) in
     let d = held (ltb rule rules && inRange L) 9 _ (c .1) in
     record {
       loads = a .0;
-      range = record { some = ltb-false (nodes words) 1 (b .0); most = ltb-false poolMost (nodes words) (c .0) };
+      range = record { some = ltb-false (nodes words) poolLeast (b .0); most = ltb-false poolMost (nodes words) (c .0) };
       limits = d .0;
     }
 
 pub accepts-refusal : (bytes : List ℕ) (words rule : ℕ) (L : Limits) → Accepts bytes words rule L → searchRefusal bytes words rule L ≡ 0
 unfolding searchRefusal rangeRefusal
 accepts-refusal bytes words rule L a =
-    rw (a .loads, le-ltb (nodes words) 1 (a .range .some), le-ltb poolMost (nodes words) (a .range .most), a .limits)
+    rw (a .loads, le-ltb (nodes words) poolLeast (a .range .some), le-ltb poolMost (nodes words) (a .range .most), a .limits)
 
 -- an answered search is accepted, and its result is the plain machine's
-answered : (bytes : List ℕ) (words rule : ℕ) (L : Limits) (r : Result) → searchCall bytes words rule L ≡ Answered r
+pub answered : (bytes : List ℕ) (words rule : ℕ) (L : Limits) (r : Result) → searchCall bytes words rule L ≡ Answered r
     → Accepts bytes words rule L × (r ≡ plainSearch rule (settings words L) bytes)
 unfolding searchCall
 answered bytes words rule L r e = go (searchRefusal bytes words rule L) refl e

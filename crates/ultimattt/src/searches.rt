@@ -14,7 +14,11 @@ use pn::Settings;
 use prove::Evaluation;
 
 // The ends of search's ranges: nodes of the pool, interval, budget.
+const LEAST_NODES: usize = 1;
+
 const MOST_NODES: usize = 16777216;
+
+const LEAST_INTERVAL: u64 = 1;
 
 const MOST_INTERVAL: u64 = 1000000;
 
@@ -37,7 +41,7 @@ pub enum Outcome {
 fn range_refusal(nodes: usize, rule: u64, l: SearchLimits) -> u8
     ensures { λ r. ⌜ r ≡ rangeRefusal nodes rule (limitsOf l) ⌝ }
 {
-    if nodes < 1 {
+    if nodes < LEAST_NODES {
         return 8;
     }
     if nodes > MOST_NODES {
@@ -46,7 +50,7 @@ fn range_refusal(nodes: usize, rule: u64, l: SearchLimits) -> u8
     if rule > crate::LAST_RULE {
         return 10;
     }
-    if l.interval < 1 {
+    if l.interval < LEAST_INTERVAL {
         return 10;
     }
     if l.interval > MOST_INTERVAL {
@@ -139,40 +143,23 @@ fn full_of(first: Evaluation, second: Evaluation) -> FullVerdict
     }
 }
 
-// Searches a record's position under rule 1, then under rule 2, each from a fresh pool.
+// Searches a record's position under rule 1, then under rule 2, each from a fresh pool: nothing that the first left in the words counts.
 pub fn full_verdict(bytes: &[u8], words: &mut [u32], l: SearchLimits) -> FullOutcome
     ensures { λ r. ⌜ (judged r ≡ fullCall (now (bytes .entry)) (length (now (words .entry))) (limitsOf l)) × PoolAfterFull (judged r) (now (words .entry)) (now (words .exit)) ⌝ }
 {
-    let loaded = record::load(bytes);
-    if loaded.code != 0 {
-        return FullOutcome::TurnedBack(loaded.code);
+    let first = search(bytes, words, 1, l);
+    match first {
+        Outcome::Refused(n) => FullOutcome::TurnedBack(n),
+        Outcome::Answered(r) => {
+            let second = search(bytes, words, 2, l);
+            match second {
+                Outcome::Refused(n) => FullOutcome::TurnedBack(n),
+                Outcome::Answered(s) => {
+                    let with_rule_1 = r.verdict;
+                    let with_rule_2 = s.verdict;
+                    FullOutcome::Full(full_of(with_rule_1, with_rule_2), r, s)
+                }
+            }
+        }
     }
-    let refused = range_refusal(node_pool::capacity(words), 0, l);
-    if refused != 0 {
-        return FullOutcome::TurnedBack(refused);
-    }
-    let start = loaded.game;
-    let first = pn::search(
-        words,
-        start,
-        Settings {
-            rule: 1,
-            limit: l.limit,
-            budget: l.budget,
-            interval: l.interval,
-        },
-    );
-    let second = pn::search(
-        words,
-        start,
-        Settings {
-            rule: 2,
-            limit: l.limit,
-            budget: l.budget,
-            interval: l.interval,
-        },
-    );
-    let with_rule_1 = first.verdict;
-    let with_rule_2 = second.verdict;
-    FullOutcome::Full(full_of(with_rule_1, with_rule_2), first, second)
 }

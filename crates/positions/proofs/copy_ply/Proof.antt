@@ -1,4 +1,4 @@
--- `positions::copy_ply` meets its contract: so many words are copied; the measure is what is left of the 23. Assumes nothing.
+-- `positions::copy_ply` meets its contract: so many words are copied; the measure is what is left of the 24. Assumes nothing.
 use mathlib.Core.Path.{_≡_, refl}
 use Prim.Native.Nat.{_+_, _-_, _*_, _<_, _≤_}
 use lib.ListN.{length}
@@ -8,10 +8,10 @@ use Rattle.positions.proofs.copy_ply.Statement.{statement}
 use Rattle.positions.proofs.copy_ply.Tie as tie
 
 abbrev Inv-loop : tie.InvT-loop
-Inv-loop positions₀ d base i₀ positions i = (i ≤ 23) × (base ≡ d * 24) × (d < 81) × (length positions₀ ≡ 1968) × Copying positions₀ base positions₀ positions (base + 24) i
+Inv-loop positions₀ d base i₀ positions i = (i ≤ 24) × (base ≡ d * 24) × (d < 81) × (length positions₀ ≡ 1968) × Copying positions₀ base positions₀ positions (base + 24) i
 
 abbrev μ-loop : tie.MeasureT-loop
-μ-loop positions₀ d base i₀ positions i = 23 - i
+μ-loop positions₀ d base i₀ positions i = 24 - i
 
 mul-base : tie.Need-mul-base Inv-loop μ-loop
 mul-base c = omega arith
@@ -54,7 +54,7 @@ loop-again c =
 returns : tie.Need-returns Inv-loop μ-loop
 returns c =
     let v = c .before .loop .inv in
-    let e : c .before .loop .i ≡ 23 = omega (arith, c .loop-test .left) in
+    let e : c .before .loop .i ≡ 24 = omega (arith, c .loop-test .left) in
     copied-ply _ _ _ (rw e at (v .4))
 
 pub copy-ply-spec : {M : Type 1} → statement M

@@ -1,70 +1,81 @@
--- `ultimattt::searches::full_verdict` meets its contract, by the check that decides. Assumes nothing.
-use mathlib.Core.Path.{refl, sym, ap, _∙_}
-use Rattle.rules.specs.Checks.{loads, loads-accepted}
-use Rattle.plain.specs.Plain.{plainSearch}
-use Rattle.words.specs.Words.{beyond-trans}
-use Rattle.ultimattt.specs.Searches.{nodes, settings, rangeRefusal}
-use Rattle.ultimattt.specs.SearchAnswers.{limitsOf, full-refused, full-out-of-range, full-answered, to-search, untouched}
+-- `ultimattt::searches::full_verdict` meets its contract, from the two searches' answers. Assumes nothing.
+use mathlib.Core.Path.{sym, ap, _∙_}
+use Rattle.ultimattt.specs.Searches.{searchCall}
+use Rattle.ultimattt.specs.SearchAnswers.{limitsOf, searched, full-refused, full-not-refused, full-answered, untouched-twice}
 use borrow.Author.Needs.{needs}
 use Rattle.ultimattt.proofs.searches.full_verdict.Statement.{statement}
 use Rattle.ultimattt.proofs.searches.full_verdict.Tie as tie
 
-load-requires : tie.Need-load-requires
-load-requires c κs = search needs
-
-returns : tie.Need-returns
-returns c = (full-refused _ _ _ _ (c .before .before .load .ensures .0) (c .if1 .taken), refl)
-
-capacity-requires : tie.Need-capacity-requires
-capacity-requires c κs = search needs
-
-range-refusal-requires : tie.Need-range-refusal-requires
-range-refusal-requires c κs = search needs
-
-same-length : tie.Need-same-length
-same-length c = search needs
-
-returns-2 : tie.Need-returns-2
-returns-2 c = (full-out-of-range _ _ _ (sym (c .before .before .before .before .before .before .load .ensures .0) ∙ c .before .before .before .before .if1 .left) _ (c .before .range-refusal .ensures ∙ ap (λ k. rangeRefusal k 0 (limitsOf (c .before .before .before .before .before .before .before .before .before .args .l))) (c .before .before .capacity .ensures)) (c .if2 .taken), refl)
-
 search-requires : tie.Need-search-requires
-unfolding rangeRefusal
-search-requires c κs = to-search _ _ _ 1 (limitsOf (c .before .before .before .before .before .before .before .before .before .before .before .args .l)) (c .before .before .before .before .before .before .before .before .load .ensures .1 (c .before .before .before .before .before .before .if1 .left)) (sym (c .before .before .before .before .before .before .before .before .load .ensures .0) ∙ c .before .before .before .before .before .before .if1 .left) (sym (c .before .before .before .range-refusal .ensures ∙ ap (λ k. rangeRefusal k 0 (limitsOf (c .before .before .before .before .before .before .before .before .before .before .before .args .l))) (c .before .before .before .before .capacity .ensures)) ∙ c .before .before .if2 .left)
+search-requires c κs = search needs
+
+enum-known-first : tie.Need-enum-known-first
+enum-known-first c = search needs
+
+enum-known-first-2 : tie.Need-enum-known-first-2
+enum-known-first-2 c = search needs
 
 search-requires-2 : tie.Need-search-requires-2
-unfolding rangeRefusal
-search-requires-2 c κs = to-search _ _ _ 2 (limitsOf (c .before .before .before .before .before .before .before .before .before .before .before .before .before .before .before .args .l)) (c .before .before .before .before .before .before .before .before .before .before .before .before .load .ensures .1 (c .before .before .before .before .before .before .before .before .before .before .if1 .left)) (sym (c .before .before .before .before .before .before .before .before .before .before .before .before .load .ensures .0) ∙ c .before .before .before .before .before .before .before .before .before .before .if1 .left) (ap (λ n. rangeRefusal (nodes n) 2 (limitsOf (c .before .before .before .before .before .before .before .before .before .before .before .before .before .before .before .args .l))) (c .before .before .before .search .kept .0) ∙ sym (c .before .before .before .before .before .before .before .range-refusal .ensures ∙ ap (λ k. rangeRefusal k 0 (limitsOf (c .before .before .before .before .before .before .before .before .before .before .before .before .before .before .before .args .l))) (c .before .before .before .before .before .before .before .before .capacity .ensures)) ∙ c .before .before .before .before .before .before .if2 .left)
+search-requires-2 c κs = search needs
+
+enum-known-second : tie.Need-enum-known-second
+enum-known-second c = search needs
+
+enum-known-second-2 : tie.Need-enum-known-second-2
+enum-known-second-2 c = search needs
 
 full-of-requires : tie.Need-full-of-requires
 full-of-requires c κs = search needs
 
+same-length : tie.Need-same-length
+same-length c = search needs
+
+returns : tie.Need-returns
+returns c =
+    let one = c .before .before .before .before .before .search in
+    let is = c .before .first .given .1 in
+    (full-refused _ _ _ _ (sym (ap searched is) ∙ one .ensures .0), rw is at (one .ensures .1))
+
 same-length-2 : tie.Need-same-length-2
 same-length-2 c = search needs
 
+returns-2 : tie.Need-returns-2
+returns-2 c =
+    let one = c .before .before .before .before .before .before .before .before .before .before .before .before .search in
+    let two = c .before .before .before .before .before .search2 in
+    let args = c .before .before .before .before .before .before .before .before .before .before .before .before .before .before .before .before .args in
+    absurd (full-not-refused (args .bytes .now) _ (limitsOf (args .l)) _ (sym (ap searched (c .before .before .before .before .before .before .before .before .first2 .given .1)) ∙ one .ensures .0) _
+    (sym (ap searched (c .before .second .given .1)) ∙ two .ensures .0 ∙ ap (λ n. searchCall (args .bytes .now) n 2 (limitsOf (args .l))) (one .kept .1 .0)))
+
+same-length-3 : tie.Need-same-length-3
+same-length-3 c = search needs
+
 returns-3 : tie.Need-returns-3
 returns-3 c =
-    let none = (sym (c .before .before .before .before .before .before .before .before .before .before .before .before .before .before .before .before .load .ensures .0) ∙ c .before .before .before .before .before .before .before .before .before .before .before .before .before .before .if1 .left) in
-    let holds = c .before .before .before .before .before .before .before .before .before .before .before .before .before .before .before .before .load .ensures .1 (c .before .before .before .before .before .before .before .before .before .before .before .before .before .before .if1 .left) in
-    let fine = loads-accepted _ (loads _ none) in
-    let one = c .before .before .before .before .before .before .before .search .ensures _ holds fine in
-    let two = c .before .before .before .search2 .ensures _ holds fine in
-    let long = c .before .before .before .before .before .before .before .search .kept .0 in (
-      full-answered _ _ (limitsOf (c .before .before .before .before .before .before .before .before .before .before .before .before .before .before .before .before .before .before .before .args .l)) none (sym (c .before .before .before .before .before .before .before .before .before .before .before .range-refusal .ensures ∙ ap (λ k. rangeRefusal k 0 (limitsOf (c .before .before .before .before .before .before .before .before .before .before .before .before .before .before .before .before .before .before .before .args .l))) (c .before .before .before .before .before .before .before .before .before .before .before .before .capacity .ensures)) ∙ c .before .before .before .before .before .before .before .before .before .before .if2 .left) _ _ _ (c .full-of .ensures) (one .result-is) (two .result-is ∙ ap (λ n. plainSearch 2 (settings n (limitsOf (c .before .before .before .before .before .before .before .before .before .before .before .before .before .before .before .before .before .before .before .args .l))) (c .before .before .before .before .before .before .before .before .before .before .before .before .before .before .before .before .before .before .before .args .bytes .now)) long),
-      untouched (c .before .before .before .before .before .before .before .before .before .before .before .before .before .before .before .before .before .before .before .args .words .now) (c .before .before .before .search2 .last .0) (c .before .before .before .search2 .kept .0 ∙ long) (beyond-trans (c .before .before .before .before .before .before .before .before .before .before .before .before .before .before .before .before .before .before .before .args .words .now) (c .before .before .before .before .before .before .before .search .last .0) (c .before .before .before .search2 .last .0) long (one .past) (two .past)),
+    let one = c .before .before .before .before .before .before .before .before .before .before .before .before .before .search in
+    let two = c .before .before .before .before .before .before .search2 in
+    let args = c .before .before .before .before .before .before .before .before .before .before .before .before .before .before .before .before .before .args in
+    let first = c .before .before .before .before .before .before .before .before .before .first2 .given .1 in
+    let second = c .before .before .second2 .given .1 in (
+      full-answered (args .bytes .now) _ (limitsOf (args .l)) _ (sym (ap searched first) ∙ one .ensures .0) _
+          (sym (ap searched second) ∙ two .ensures .0 ∙ ap (λ n. searchCall (args .bytes .now) n 2 (limitsOf (args .l))) (one .kept .1 .0)) _ (c .full-of .ensures),
+      untouched-twice (args .words .now) (one .last .1 .0) (two .last .1 .0) (rw first at (one .ensures .1)) (rw second at (two .ensures .1)),
     )
 
 pub full-verdict-spec : {M : Type 1} → statement M
 full-verdict-spec =
     tie.close
     (tie.spec
-    load-requires
-    returns
-    capacity-requires
-    range-refusal-requires
-    same-length
-    returns-2
     search-requires
+    enum-known-first
+    enum-known-first-2
     search-requires-2
+    enum-known-second
+    enum-known-second-2
     full-of-requires
+    same-length
+    returns
     same-length-2
+    returns-2
+    same-length-3
     returns-3)

@@ -1,0 +1,97 @@
+//! The exports as include/ultimattt.h has them. Nothing but the sizes below holds these declarations to the library.
+
+use std::mem::size_of;
+
+#[repr(C)]
+pub struct ReplayAnswer {
+    pub code: u32,
+    pub index: u64,
+}
+
+#[repr(C)]
+pub struct MovesAnswer {
+    pub code: u32,
+    pub index: u64,
+    pub count: u64,
+}
+
+#[repr(C)]
+pub struct RefereeAnswer {
+    pub code: u32,
+    pub index: u64,
+    pub value: u32,
+}
+
+#[repr(C)]
+pub struct ResultFields {
+    pub verdict: u32,
+    pub proof: u32,
+    pub disproof: u32,
+    pub allocated: u64,
+    pub freed: u64,
+    pub proved: u64,
+    pub disproved: u64,
+    pub expanded: u64,
+    pub cause: u32,
+}
+
+#[repr(C)]
+pub struct SearchAnswer {
+    pub code: u32,
+    pub index: u64,
+    pub result: ResultFields,
+}
+
+#[repr(C)]
+pub struct FullAnswer {
+    pub code: u32,
+    pub index: u64,
+    pub verdict: u32,
+    pub first: ResultFields,
+    pub second: ResultFields,
+}
+
+const _: () = assert!(size_of::<ReplayAnswer>() == 16 && size_of::<MovesAnswer>() == 24);
+const _: () = assert!(size_of::<RefereeAnswer>() == 24 && size_of::<ResultFields>() == 64);
+const _: () = assert!(size_of::<SearchAnswer>() == 80 && size_of::<FullAnswer>() == 152);
+
+extern "C" {
+    pub fn uttt_replay(
+        record: *const u8,
+        record_length: usize,
+        moves: *const u8,
+        moves_length: usize,
+        output: *mut u8,
+        output_length: usize,
+    ) -> ReplayAnswer;
+
+    pub fn uttt_legal_moves(
+        record: *const u8,
+        record_length: usize,
+        output: *mut u8,
+        output_length: usize,
+    ) -> MovesAnswer;
+
+    pub fn uttt_referee(record: *const u8, record_length: usize, rule: u64) -> RefereeAnswer;
+
+    pub fn uttt_search(
+        record: *const u8,
+        record_length: usize,
+        pool: *mut u32,
+        pool_words: usize,
+        rule: u64,
+        limit: u64,
+        budget: u64,
+        interval: u64,
+    ) -> SearchAnswer;
+
+    pub fn uttt_full_verdict(
+        record: *const u8,
+        record_length: usize,
+        pool: *mut u32,
+        pool_words: usize,
+        limit: u64,
+        budget: u64,
+        interval: u64,
+    ) -> FullAnswer;
+}

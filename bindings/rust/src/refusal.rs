@@ -1,0 +1,139 @@
+//! Why a call is refused.
+
+use std::error::Error;
+use std::fmt;
+
+/// The first check that a call failed, the lowest of those that it fails. Nothing was written.
+///
+/// Where a move is to blame, its index in the list of moves, from 0, stands with it.
+#[derive(Clone, Copy, Debug, PartialEq, Eq, Hash)]
+pub enum Refusal {
+    /// 1: the record is not 21 bytes long.
+    RecordLength,
+    /// 2: a cell of code 3, a target of 9 to 14, or a last bit of 1.
+    RecordBits,
+    /// 3: the counts of X's and O's cells don't go with the side to move.
+    CellCounts,
+    /// 4: a board has lines of both sides.
+    BoardWonTwice,
+    /// 5: both sides have a line of boards, or the side to move has one.
+    GameWonWrongly,
+    /// 6: the target is a won or drawn board.
+    TargetDone,
+    /// 7: the output is shorter than 21 bytes for a record, or than 81 for moves.
+    OutputShort,
+    /// 8: the pool has less than one node.
+    PoolEmpty,
+    /// 9: the pool has more than 16,777,216 nodes.
+    PoolTooLarge,
+    /// 10: the rule, the interval or the budget is out of its range.
+    SettingRange,
+    /// 11: a move's board or cell is not 0 to 8.
+    OutOfBounds(usize),
+    /// 12: a move after the game's end.
+    GameOver(usize),
+    /// 13: a move on a won or drawn board.
+    WonBoard(usize),
+    /// 14: a move on another board than the target.
+    WrongBoard(usize),
+    /// 15: a move on a cell that is taken.
+    NotEmpty(usize),
+    /// 16: over nine empty cells in boards in play, too many for the referee.
+    TooManyEmpty,
+}
+
+impl Refusal {
+    /// The refusal that a code and an index stand for; code 0 is none.
+    pub(crate) fn check(code: u32, index: u64) -> Result<(), Refusal> {
+        let at = index as usize;
+        Err(match code {
+            0 => return Ok(()),
+            1 => Refusal::RecordLength,
+            2 => Refusal::RecordBits,
+            3 => Refusal::CellCounts,
+            4 => Refusal::BoardWonTwice,
+            5 => Refusal::GameWonWrongly,
+            6 => Refusal::TargetDone,
+            7 => Refusal::OutputShort,
+            8 => Refusal::PoolEmpty,
+            9 => Refusal::PoolTooLarge,
+            10 => Refusal::SettingRange,
+            11 => Refusal::OutOfBounds(at),
+            12 => Refusal::GameOver(at),
+            13 => Refusal::WonBoard(at),
+            14 => Refusal::WrongBoard(at),
+            15 => Refusal::NotEmpty(at),
+            16 => Refusal::TooManyEmpty,
+            _ => crate::answer::unnamed("code", code),
+        })
+    }
+
+    /// The number in the table of refusals, 1 to 16.
+    pub fn number(self) -> u32 {
+        match self {
+            Refusal::RecordLength => 1,
+            Refusal::RecordBits => 2,
+            Refusal::CellCounts => 3,
+            Refusal::BoardWonTwice => 4,
+            Refusal::GameWonWrongly => 5,
+            Refusal::TargetDone => 6,
+            Refusal::OutputShort => 7,
+            Refusal::PoolEmpty => 8,
+            Refusal::PoolTooLarge => 9,
+            Refusal::SettingRange => 10,
+            Refusal::OutOfBounds(_) => 11,
+            Refusal::GameOver(_) => 12,
+            Refusal::WonBoard(_) => 13,
+            Refusal::WrongBoard(_) => 14,
+            Refusal::NotEmpty(_) => 15,
+            Refusal::TooManyEmpty => 16,
+        }
+    }
+
+    /// The bad move's index, where a move is to blame.
+    pub fn index(self) -> Option<usize> {
+        match self {
+            Refusal::OutOfBounds(at)
+            | Refusal::GameOver(at)
+            | Refusal::WonBoard(at)
+            | Refusal::WrongBoard(at)
+            | Refusal::NotEmpty(at) => Some(at),
+            _ => None,
+        }
+    }
+
+    /// What is wrong, but for the move's place.
+    fn words(self) -> &'static str {
+        match self {
+            Refusal::RecordLength => "the record is not 21 bytes long",
+            Refusal::RecordBits => "the record has a cell of code 3, a target of 9 to 14, or a last bit of 1",
+            Refusal::CellCounts => "the numbers of X's and O's cells don't go with the side to move",
+            Refusal::BoardWonTwice => "a board has a line of X and a line of O",
+            Refusal::GameWonWrongly => "both sides have a line of boards, or the side to move has one",
+            Refusal::TargetDone => "the target is a board that is won or drawn",
+            Refusal::OutputShort => "the output is too short: a record takes 21 bytes, moves take 81",
+            Refusal::PoolEmpty => "the pool has no room for a node, which takes five words",
+            Refusal::PoolTooLarge => "the pool has more than 16,777,216 nodes",
+            Refusal::SettingRange => {
+                "the rule is over 2, the interval is not 1 to 1,000,000, or the budget is over 1,000,000,000,000"
+            }
+            Refusal::OutOfBounds(_) => "its board or its cell is not 0 to 8",
+            Refusal::GameOver(_) => "the game is over",
+            Refusal::WonBoard(_) => "its board is won or drawn",
+            Refusal::WrongBoard(_) => "its board is not the target",
+            Refusal::NotEmpty(_) => "its cell is taken",
+            Refusal::TooManyEmpty => "boards in play have over nine empty cells, too many for the referee",
+        }
+    }
+}
+
+impl fmt::Display for Refusal {
+    fn fmt(&self, f: &mut fmt::Formatter) -> fmt::Result {
+        if let Some(at) = self.index() {
+            write!(f, "the move at index {at}: ")?;
+        }
+        f.write_str(self.words())
+    }
+}
+
+impl Error for Refusal {}

@@ -1,0 +1,52 @@
+//! Records for the tests.
+#![allow(dead_code)]
+
+use ultimattt::{Pool, Record, Settings, EMPTY_GAME};
+
+pub const X: u8 = 1;
+pub const O: u8 = 2;
+pub const FREE_CHOICE: u8 = 15;
+
+/// The 21 bytes that hexadecimal digits stand for.
+pub fn record(digits: &str) -> Record {
+    assert_eq!(digits.len(), 42, "a record has 42 digits");
+    std::array::from_fn(|i| u8::from_str_radix(&digits[2 * i..2 * i + 2], 16).expect("hexadecimal digits"))
+}
+
+/// A record of X to move from its target and its marked cells: boards, cells of each, code.
+pub fn x_to_move(target: u8, marks: &[(&[usize], &[usize], u8)]) -> Record {
+    let mut record = [0; 21];
+    record[0] = target << 3;
+    for (boards, cells, code) in marks {
+        for place in boards.iter().flat_map(|b| cells.iter().map(move |c| 9 * b + c)) {
+            let bit = 5 + 2 * place;
+            record[bit / 8] |= (code >> 1) << (7 - bit % 8);
+            record[(bit + 1) / 8] |= (code & 1) << (7 - (bit + 1) % 8);
+        }
+    }
+    record
+}
+
+/// E, the empty game.
+pub const E: Record = EMPTY_GAME;
+
+/// W: X to move wins at once on board 2.
+pub fn w() -> Record {
+    let two_boards: (&[usize], &[usize], u8) = (&[0, 1], &[0, 1, 2], X);
+    x_to_move(2, &[two_boards, (&[3, 4], &[0, 1, 2], O), (&[2], &[0, 1], X), (&[2], &[6, 7], O)])
+}
+
+/// D, a drawn game, with the target under trial.
+pub fn d(target: u8) -> Record {
+    let of_x: (&[usize], &[usize], u8) = (&[0, 1, 5, 6, 7], &[0, 1, 2], X);
+    x_to_move(target, &[of_x, (&[2, 3, 4, 8], &[0, 1, 2], O), (&[0], &[3, 4], O), (&[1], &[3], O)])
+}
+
+pub fn pool(nodes: usize) -> Pool {
+    Pool::new(nodes).expect("a pool within the range")
+}
+
+/// The program judge's settings, but for the budget.
+pub fn budget(budget: u64) -> Settings {
+    Settings { budget, ..Settings::default() }
+}

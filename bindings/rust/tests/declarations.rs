@@ -1,0 +1,184 @@
+//! The library's own text, the wrapper's declarations and the C header, held together: same structs, same functions,
+//! same numbers.
+
+use std::collections::BTreeMap;
+use ultimattt::{Cause, Refusal, Rule};
+use ultimattt::{BUDGET_MOST, INFINITY, INTERVAL_MOST, MOVES_BYTES, NODE_WORDS, POOL_MOST, RECORD_BYTES};
+
+const LIBRARY: &str = include_str!("../../../crates/ultimattt/src/exports.rt");
+const WRAPPER: &str = include_str!("../src/ffi.rs");
+const HEADER: &str = include_str!("../../../include/ultimattt.h");
+
+/// Types of C as the wrapper writes them; what holds another comes first.
+const TYPES: [(&str, &str); 12] = [
+    ("struct uttt_replay_answer", "ReplayAnswer"),
+    ("struct uttt_moves_answer", "MovesAnswer"),
+    ("struct uttt_referee_answer", "RefereeAnswer"),
+    ("struct uttt_search_answer", "SearchAnswer"),
+    ("struct uttt_full_answer", "FullAnswer"),
+    ("struct uttt_result", "ResultFields"),
+    ("const uint8_t *", "*const u8 "),
+    ("uint8_t *", "*mut u8 "),
+    ("uint32_t *", "*mut u32 "),
+    ("uint32_t", "u32"),
+    ("uint64_t", "u64"),
+    ("size_t", "usize"),
+];
+
+/// For each name, its parts in order.
+type Declared = BTreeMap<String, Vec<String>>;
+
+/// The header without comments, its types as the wrapper writes them.
+fn header() -> String {
+    let mut text = String::new();
+    let mut rest = HEADER;
+    while let Some((before, after)) = rest.split_once("/*") {
+        text.push_str(before);
+        rest = after.split_once("*/").expect("a comment ends").1;
+    }
+    text.push_str(rest);
+    TYPES.iter().fold(text, |text, (c, rust)| text.replace(c, rust))
+}
+
+/// What stands between `open` and `close`, for each name after `key`, and the text after it.
+fn blocks<'a>(text: &'a str, key: &str, open: char, close: char) -> Vec<(&'a str, &'a str, &'a str)> {
+    let pieces = text.split(key).skip(1);
+    let block = |piece: &'a str| {
+        let (name, rest) = piece.split_once(open)?;
+        let (inside, after) = rest.split_once(close)?;
+        Some((name.trim(), inside, after))
+    };
+    pieces.filter_map(block).collect()
+}
+
+/// The last word and the type ahead of it: `u64 index`.
+fn c_part(text: &str) -> Option<(&str, &str)> {
+    let (kind, name) = text.trim().rsplit_once(' ')?;
+    Some((name, kind.trim()))
+}
+
+fn rust_part(text: &str) -> Option<(&str, &str)> {
+    let (name, kind) = text.trim().trim_start_matches("pub ").split_once(": ")?;
+    Some((name, kind))
+}
+
+fn rust_structs(text: &str) -> Declared {
+    let fields = |inside: &str| inside.split(',').filter_map(rust_part).map(|(n, k)| format!("{n}: {k}")).collect();
+    blocks(text, "pub struct ", '{', '}')
+        .into_iter()
+        .map(|(name, inside, _)| (name.to_string(), fields(inside)))
+        .collect()
+}
+
+fn c_structs(text: &str) -> Declared {
+    let names = ["ReplayAnswer", "MovesAnswer", "RefereeAnswer", "ResultFields", "SearchAnswer", "FullAnswer"];
+    let fields = |name: &str| {
+        let (_, after) = text.split_once(&format!("\n{name} {{")).expect("the header has each struct");
+        let (inside, _) = after.split_once('}').expect("a struct ends");
+        inside.split(';').filter_map(c_part).map(|(n, k)| format!("{n}: {k}")).collect()
+    };
+    names.iter().map(|name| (name.to_string(), fields(name))).collect()
+}
+
+/// A type of the library as C sees it: a slice is a pointer and a length.
+fn passed(kind: &str) -> Vec<String> {
+    let (pointer, of) = match kind {
+        "&[u8]" => ("*const", "u8"),
+        "&mut [u8]" => ("*mut", "u8"),
+        "&mut [u32]" => ("*mut", "u32"),
+        _ => return vec![kind.to_string()],
+    };
+    vec![format!("{pointer} {of}"), "usize".to_string()]
+}
+
+/// The types of the parameters, then that of the answer.
+fn rust_functions(text: &str, key: &str) -> Declared {
+    let declared = blocks(text, key, '(', ')').into_iter().map(|(name, inside, after)| {
+        let mut kinds: Vec<String> = inside.split(',').filter_map(rust_part).flat_map(|(_, k)| passed(k)).collect();
+        let answer = after.trim_start_matches(" -> ").split([';', '\n']).next().expect("an answer's type");
+        kinds.push(answer.to_string());
+        (name.to_string(), kinds)
+    });
+    declared.collect()
+}
+
+fn c_functions(text: &str) -> Declared {
+    let prototypes = text.split(';').filter_map(|piece| piece.trim().strip_suffix(')'));
+    let declared = prototypes.filter_map(|piece| {
+        let (head, inside) = piece.split_once('(')?;
+        let (name, answer) = c_part(head.lines().last()?)?;
+        let mut kinds: Vec<String> = inside.split(',').filter_map(c_part).map(|(_, k)| k.to_string()).collect();
+        kinds.push(answer.to_string());
+        Some((name.to_string(), kinds))
+    });
+    declared.collect()
+}
+
+#[test]
+fn structs() {
+    let library = rust_structs(LIBRARY);
+    assert_eq!(library.len(), 6);
+    assert_eq!(rust_structs(WRAPPER), library);
+    assert_eq!(c_structs(&header()), library);
+}
+
+#[test]
+fn functions() {
+    let library = rust_functions(LIBRARY, "pub extern \"C\" fn ");
+    assert_eq!(library.len(), 5);
+    assert_eq!(rust_functions(WRAPPER, "pub fn "), library);
+    assert_eq!(c_functions(&header()), library);
+}
+
+/// The header's number of a name, from an enum or a #define.
+fn number(name: &str) -> u64 {
+    let text = header();
+    let after = [format!(" UTTT_{name} = "), format!("#define UTTT_{name} ")];
+    let found = after.iter().find_map(|key| text.split_once(key.as_str())).expect("the header has the name").1;
+    let digits = found.trim_start_matches("UINT64_C(").trim_start_matches("UINT32_C(");
+    digits.split(|c: char| !c.is_ascii_digit()).next().and_then(|n| n.parse().ok()).expect("a number")
+}
+
+#[test]
+fn refusals() {
+    let named = [
+        ("RECORD_LENGTH", Refusal::RecordLength),
+        ("RECORD_BITS", Refusal::RecordBits),
+        ("CELL_COUNTS", Refusal::CellCounts),
+        ("BOARD_WON_TWICE", Refusal::BoardWonTwice),
+        ("GAME_WON_WRONGLY", Refusal::GameWonWrongly),
+        ("TARGET_DONE", Refusal::TargetDone),
+        ("OUTPUT_SHORT", Refusal::OutputShort),
+        ("POOL_EMPTY", Refusal::PoolEmpty),
+        ("POOL_TOO_LARGE", Refusal::PoolTooLarge),
+        ("SETTING_RANGE", Refusal::SettingRange),
+        ("OUT_OF_BOUNDS", Refusal::OutOfBounds(0)),
+        ("GAME_OVER", Refusal::GameOver(0)),
+        ("WON_BOARD", Refusal::WonBoard(0)),
+        ("WRONG_BOARD", Refusal::WrongBoard(0)),
+        ("NOT_EMPTY", Refusal::NotEmpty(0)),
+        ("TOO_MANY_EMPTY", Refusal::TooManyEmpty),
+    ];
+    for (name, refusal) in named {
+        assert_eq!(number(name), u64::from(refusal.number()), "{name}");
+    }
+}
+
+#[test]
+fn verdicts_causes_and_rules() {
+    assert_eq!(["OK", "UNKNOWN", "TRUE", "FALSE"].map(number), [0, 0, 1, 2]);
+    let full = ["FULL_UNKNOWN", "FULL_WIN", "FULL_LOSS", "FULL_DRAW", "FULL_AT_LEAST_DRAW", "FULL_AT_MOST_DRAW"];
+    assert_eq!(full.map(number), [0, 1, 2, 3, 4, 5]);
+    let causes = [Cause::Solved, Cause::BudgetSpent, Cause::PoolShort, Cause::OverLimit];
+    assert_eq!(["SOLVED", "BUDGET_SPENT", "POOL_SHORT", "OVER_LIMIT"].map(number), causes.map(|c| c.number().into()));
+    let rules = [Rule::DrawLostByMover, Rule::DrawFalse, Rule::DrawTrue];
+    assert_eq!(["DRAW_LOST_BY_MOVER", "DRAW_FALSE", "DRAW_TRUE"].map(number), rules.map(Rule::number));
+}
+
+#[test]
+fn sizes_and_ranges() {
+    let sizes = [RECORD_BYTES, MOVES_BYTES, NODE_WORDS, POOL_MOST].map(|n| n as u64);
+    assert_eq!(["RECORD_BYTES", "MOVES_BYTES", "NODE_WORDS", "POOL_MOST"].map(number), sizes);
+    let ends = [BUDGET_MOST, INTERVAL_MOST, INFINITY.into()];
+    assert_eq!(["BUDGET_MOST", "INTERVAL_MOST", "INFINITY"].map(number), ends);
+}

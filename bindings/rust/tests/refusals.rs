@@ -1,0 +1,110 @@
+//! Each refusal of document 01's table, with its number, its index and its words.
+
+mod common;
+
+use common::{d, pool, w, x_to_move, E, FREE_CHOICE, O, X};
+use ultimattt::{full_verdict, legal_moves_into, referee, replay, replay_into, search};
+use ultimattt::{Pool, Refusal, Rule, Settings, BUDGET_MOST, INTERVAL_MOST, NODE_WORDS, POOL_MOST};
+
+fn refused<T: std::fmt::Debug>(answer: Result<T, Refusal>, refusal: Refusal, number: u32, words: &str) {
+    let found = answer.expect_err("a refusal");
+    assert_eq!(found, refusal);
+    assert_eq!(found.number(), number);
+    assert_eq!(found.to_string(), words);
+}
+
+fn searched(words: usize, settings: Settings) -> Result<String, Refusal> {
+    let answer = search(&E, &mut Pool::from_words(vec![0; words]), Rule::DrawFalse, &settings);
+    let full = full_verdict(&E, &mut Pool::from_words(vec![0; words]), &settings);
+    assert_eq!(answer.err(), full.err(), "search and full verdict have the same checks");
+    answer.map(|result| result.to_string())
+}
+
+#[test]
+fn records() {
+    refused(replay(&E[..20], &[]), Refusal::RecordLength, 1, "the record is not 21 bytes long");
+    refused(replay(&[], &[]), Refusal::RecordLength, 1, "the record is not 21 bytes long");
+    let bits = "the record has a cell of code 3, a target of 9 to 14, or a last bit of 1";
+    refused(replay(&x_to_move(FREE_CHOICE, &[(&[0], &[0], 3)]), &[]), Refusal::RecordBits, 2, bits);
+    refused(replay(&x_to_move(9, &[]), &[]), Refusal::RecordBits, 2, bits);
+    let mut last_bit = E;
+    last_bit[20] = 1;
+    refused(replay(&last_bit, &[]), Refusal::RecordBits, 2, bits);
+    let counts = "the numbers of X's and O's cells don't go with the side to move";
+    refused(replay(&x_to_move(FREE_CHOICE, &[(&[0], &[0], X)]), &[]), Refusal::CellCounts, 3, counts);
+    let twice = x_to_move(FREE_CHOICE, &[(&[0], &[0, 1, 2], X), (&[0], &[3, 4, 5], O)]);
+    refused(replay(&twice, &[]), Refusal::BoardWonTwice, 4, "a board has a line of X and a line of O");
+    let won = x_to_move(FREE_CHOICE, &[(&[0, 1, 2], &[0, 1, 2], X), (&[3, 4, 5], &[0, 1, 3], O)]);
+    let words = "both sides have a line of boards, or the side to move has one";
+    refused(replay(&won, &[]), Refusal::GameWonWrongly, 5, words);
+    refused(replay(&d(0), &[]), Refusal::TargetDone, 6, "the target is a board that is won or drawn");
+}
+
+#[test]
+fn outputs() {
+    let words = "the output is too short: a record takes 21 bytes, moves take 81";
+    refused(replay_into(&E, &[], &mut [0; 20]), Refusal::OutputShort, 7, words);
+    refused(replay_into(&E, &[], &mut []), Refusal::OutputShort, 7, words);
+    refused(legal_moves_into(&E, &mut [0; 80]), Refusal::OutputShort, 7, words);
+}
+
+#[test]
+fn pools() {
+    let none = "the pool has no room for a node, which takes five words";
+    refused(Pool::new(0), Refusal::PoolEmpty, 8, none);
+    refused(searched(0, Settings::default()), Refusal::PoolEmpty, 8, none);
+    refused(searched(NODE_WORDS - 1, Settings::default()), Refusal::PoolEmpty, 8, none);
+    let large = "the pool has more than 16,777,216 nodes";
+    refused(Pool::new(POOL_MOST + 1), Refusal::PoolTooLarge, 9, large);
+    refused(searched((POOL_MOST + 1) * NODE_WORDS, Settings::default()), Refusal::PoolTooLarge, 9, large);
+    assert_eq!(pool(POOL_MOST).nodes(), POOL_MOST);
+}
+
+#[test]
+fn settings() {
+    let words = "the rule is over 2, the interval is not 1 to 1,000,000, or the budget is over 1,000,000,000,000";
+    let usual = Settings::default();
+    for interval in [0, INTERVAL_MOST + 1] {
+        refused(searched(30, Settings { interval, ..usual }), Refusal::SettingRange, 10, words);
+    }
+    refused(searched(30, Settings { budget: BUDGET_MOST + 1, ..usual }), Refusal::SettingRange, 10, words);
+    for interval in [1, INTERVAL_MOST] {
+        assert!(searched(30, Settings { interval, budget: BUDGET_MOST, limit: 0 }).is_ok());
+    }
+}
+
+#[test]
+fn moves() {
+    let bounds = "the move at index 0: its board or its cell is not 0 to 8";
+    refused(replay(&E, &[0x09]), Refusal::OutOfBounds(0), 11, bounds);
+    let over = "the move at index 0: the game is over";
+    refused(replay(&d(FREE_CHOICE), &[0x88]), Refusal::GameOver(0), 12, over);
+    let won = "the move at index 0: its board is won or drawn";
+    refused(replay(&w(), &[0x05]), Refusal::WonBoard(0), 13, won);
+    let wrong = "the move at index 1: its board is not the target";
+    refused(replay(&E, &[0x44, 0x00]), Refusal::WrongBoard(1), 14, wrong);
+    let taken = "the move at index 2: its cell is taken";
+    refused(replay(&E, &[0x40, 0x04, 0x40, 0x00]), Refusal::NotEmpty(2), 15, taken);
+}
+
+#[test]
+fn endings() {
+    let words = "boards in play have over nine empty cells, too many for the referee";
+    refused(referee(&E, Rule::DrawFalse), Refusal::TooManyEmpty, 16, words);
+}
+
+#[test]
+fn index_with_moves_alone() {
+    assert_eq!(Refusal::NotEmpty(7).index(), Some(7));
+    assert_eq!(Refusal::TooManyEmpty.index(), None);
+}
+
+/// The lowest number comes first, whatever else is wrong.
+#[test]
+fn lowest_first() {
+    let bad = Settings { interval: 0, ..Settings::default() };
+    let mut none = Pool::from_words(vec![]);
+    assert_eq!(search(&[], &mut none, Rule::DrawTrue, &bad), Err(Refusal::RecordLength));
+    assert_eq!(search(&E, &mut none, Rule::DrawTrue, &bad), Err(Refusal::PoolEmpty));
+    assert_eq!(replay_into(&E, &[0x09], &mut []), Err(Refusal::OutputShort));
+}

@@ -1,0 +1,68 @@
+//! What a call leaves alone in the memory that is lent to it.
+
+mod common;
+
+use common::{budget, w, E};
+use ultimattt::{full_verdict, legal_moves_into, replay_into, search, Pool, Refusal, Rule, NODE_WORDS};
+
+const MARK: u8 = 0xEE;
+
+#[test]
+fn output_past_the_record() {
+    let mut output = [MARK; 40];
+    assert_eq!(replay_into(&E, &[], &mut output), Ok(()));
+    assert_eq!(output[..21], E);
+    assert_eq!(output[21..], [MARK; 19]);
+}
+
+#[test]
+fn output_past_the_moves() {
+    let mut output = [MARK; 100];
+    assert_eq!(legal_moves_into(&w(), &mut output), Ok(5));
+    assert_eq!(output[..5], [0x22, 0x23, 0x24, 0x25, 0x28]);
+    assert_eq!(output[5..], [MARK; 95]);
+}
+
+#[test]
+fn output_of_a_refused_call() {
+    let mut output = [MARK; 100];
+    assert_eq!(replay_into(&E, &[0x44, 0x44], &mut output), Err(Refusal::NotEmpty(1)));
+    assert_eq!(legal_moves_into(&E, &mut output[..80]), Err(Refusal::OutputShort));
+    assert_eq!(output, [MARK; 100]);
+}
+
+/// Six nodes and four words more, all of them junk.
+fn junk() -> Vec<u32> {
+    (0..34).map(|i: u32| i.wrapping_mul(0x9E37_79B9) ^ 0x5555_5555).collect()
+}
+
+#[test]
+fn words_past_the_capacity() {
+    let mut pool = Pool::from_words(junk());
+    assert_eq!(pool.nodes(), 6);
+    let result = search(&w(), &mut pool, Rule::DrawFalse, &budget(1)).unwrap();
+    assert_eq!(result.to_string(), "True 0 2147483648 2 1 1 0 1 0");
+    assert_eq!(pool.words()[6 * NODE_WORDS..], junk()[6 * NODE_WORDS..]);
+    full_verdict(&w(), &mut pool, &budget(1)).unwrap();
+    assert_eq!(pool.into_words()[6 * NODE_WORDS..], junk()[6 * NODE_WORDS..]);
+}
+
+#[test]
+fn pool_of_a_refused_call() {
+    let mut pool = Pool::from_words(junk());
+    let late = budget(ultimattt::BUDGET_MOST + 1);
+    assert_eq!(search(&w(), &mut pool, Rule::DrawFalse, &late), Err(Refusal::SettingRange));
+    assert!(full_verdict(&w()[1..], &mut pool, &budget(1)).is_err());
+    assert_eq!(pool.words(), junk());
+}
+
+/// A used pool gives the same answers as a new one.
+#[test]
+fn words_decide_nothing() {
+    let mut used = Pool::from_words((0..20_000).map(|i: u32| !i).collect());
+    let mut new = Pool::new(4_000).unwrap();
+    for record in [E, w(), E] {
+        let first = full_verdict(&record, &mut used, &budget(2_000)).unwrap();
+        assert_eq!(first, full_verdict(&record, &mut new, &budget(2_000)).unwrap());
+    }
+}

@@ -1,0 +1,203 @@
+/*
+ * libultimattt: adjudication of Ultimate Tic Tac Toe by proof-number search. For C99 and C++ on x86-64 with the System
+ * V calling convention; the archive needs nothing but a C library.
+ *
+ * Buffers. A buffer is a pointer and a length: bytes for records, moves and outputs, 32-bit words for a pool. All of
+ * them are the caller's: the library allocates nothing, frees nothing and keeps no pointer after a call. A buffer that
+ * is written (output, pool) may not overlap another buffer of the same call; record and moves are only read. What an
+ * output or a pool held before decides nothing: neither need be cleared. A pool is aligned as uint32_t is.
+ *
+ * Length 0. The pointer is not followed and may be null. A record of length 0 is refused with 1, an output with 7, a
+ * pool with 8; no moves is a list like any other. A null pointer with another length is the caller's error.
+ *
+ * Answers. Read code first. It is 0 (UTTT_OK), or the number of the first check that failed, the lowest of those that
+ * do. With a refusal no byte of any buffer is written and every other field but index is 0, so that verdict and cause
+ * then mean nothing. index is the place, from 0, of the bad move with codes 11 to 15, and 0 elsewhere.
+ *
+ * Threads. The library has no variables: a call reads and writes its buffers and its own stack alone. Threads may call
+ * at once if no buffer that one of them writes is used by another.
+ *
+ * Time and stack. No call can be interrupted; the budget bounds a search, and the referee takes small endings only.
+ * Where it was measured, each call used less than 8 KiB of stack; pool and budget make no difference to that.
+ *
+ * Proofs. docs/PROMISES.md says what is proved of each call, for every record, move list, pool and setting. Of a C
+ * caller the proofs assume that every pointer is valid for its length and aligned, and that no buffer that is written
+ * overlaps another. What stands above about threads, time and stack was measured or read off the archive, not proved.
+ */
+#ifndef ULTIMATTT_H
+#define ULTIMATTT_H
+
+#include <stddef.h>
+#include <stdint.h>
+
+#ifdef __cplusplus
+extern "C" {
+#endif
+
+/*
+ * A record is 21 bytes, bits most significant first: one bit of side to move (0 X, 1 O); four bits of target (0 to 8 a
+ * board, 15 free choice); 81 cells of two bits, board 0 cell 0 first (0 empty, 1 X, 2 O); one zero bit. Boards and
+ * cells are numbered 0 to 8, row by row. The empty game is 0x78 and twenty zero bytes.
+ *
+ * A move is one byte: board in the high four bits, cell in the low four.
+ */
+#define UTTT_RECORD_BYTES 21
+/* An output for legal moves has room for so many, whatever the position. */
+#define UTTT_MOVES_BYTES 81
+
+/* code: UTTT_OK or why a call was refused. */
+enum uttt_code {
+    UTTT_OK = 0,
+    UTTT_RECORD_LENGTH = 1,     /* the record is not 21 bytes long */
+    UTTT_RECORD_BITS = 2,       /* a cell of code 3, a target of 9 to 14, or a last bit of 1 */
+    UTTT_CELL_COUNTS = 3,       /* as many X as O cells and O to move, or one X more and X to move, or another count */
+    UTTT_BOARD_WON_TWICE = 4,   /* a board with lines of both sides */
+    UTTT_GAME_WON_WRONGLY = 5,  /* both sides have a line of boards, or the side to move has one */
+    UTTT_TARGET_DONE = 6,       /* the target is a won or drawn board */
+    UTTT_OUTPUT_SHORT = 7,      /* replay: output below 21 bytes; legal moves: below 81 */
+    UTTT_POOL_EMPTY = 8,        /* the pool has less than one node */
+    UTTT_POOL_TOO_LARGE = 9,    /* the pool has more than 16,777,216 nodes */
+    UTTT_SETTING_RANGE = 10,    /* the rule, the interval or the budget is out of its range */
+    UTTT_OUT_OF_BOUNDS = 11,    /* a move's board or cell is not 0 to 8 */
+    UTTT_GAME_OVER = 12,        /* a move after the game's end */
+    UTTT_WON_BOARD = 13,        /* a move on a won or drawn board */
+    UTTT_WRONG_BOARD = 14,      /* a move on another board than the target */
+    UTTT_NOT_EMPTY = 15,        /* a move on a cell that is taken */
+    UTTT_TOO_MANY_EMPTY = 16    /* referee: over nine empty cells in boards in play */
+};
+
+/*
+ * Draw rules: what a drawn game counts as. True and False are for the side to move in the record. Under rule 1 True is
+ * "it can force a win"; under rule 2 True is "it can force at least a draw". Rule 0 is the original program's: a drawn
+ * position is lost by whoever is to move in it. It answers neither question.
+ */
+enum uttt_rule {
+    UTTT_DRAW_LOST_BY_MOVER = 0,
+    UTTT_DRAW_FALSE = 1,
+    UTTT_DRAW_TRUE = 2
+};
+
+/* verdict of a search, value of the referee. */
+enum uttt_verdict {
+    UTTT_UNKNOWN = 0,
+    UTTT_TRUE = 1,
+    UTTT_FALSE = 2
+};
+
+/* verdict of uttt_full_verdict, for the side to move. */
+enum uttt_full {
+    UTTT_FULL_UNKNOWN = 0,
+    UTTT_FULL_WIN = 1,
+    UTTT_FULL_LOSS = 2,
+    UTTT_FULL_DRAW = 3,
+    UTTT_FULL_AT_LEAST_DRAW = 4,
+    UTTT_FULL_AT_MOST_DRAW = 5
+};
+
+/* cause: why a search ended. */
+enum uttt_cause {
+    UTTT_SOLVED = 0,
+    UTTT_BUDGET_SPENT = 1,  /* as many expansions as the budget allows */
+    UTTT_POOL_SHORT = 2,    /* fewer free nodes in the pool than the next leaf has legal moves */
+    UTTT_OVER_LIMIT = 3     /* more live nodes than the limit, seen on an interval-th expansion */
+};
+
+/*
+ * A pool is words of 32 bits, five a node, so 20 bytes: 3,276 nodes are 65,520 bytes; the most, 16,777,216 nodes, are
+ * 335,544,320 bytes (320 MiB). Its length is given in words. Up to four words past the last whole node are left alone;
+ * after a call that was not refused the others hold junk.
+ */
+#define UTTT_NODE_WORDS 5
+#define UTTT_POOL_MOST 16777216
+
+/* Ranges: budget 0 to the most; interval 1 to the most; limit any number, UINT64_MAX for none. */
+#define UTTT_BUDGET_MOST UINT64_C(1000000000000)
+#define UTTT_INTERVAL_MOST 1000000
+
+/* A proof or disproof number from here upward stands for infinity. */
+#define UTTT_INFINITY UINT32_C(2147483648)
+
+struct uttt_replay_answer {
+    uint32_t code;
+    uint64_t index;
+};
+
+struct uttt_moves_answer {
+    uint32_t code;
+    uint64_t index;
+    uint64_t count; /* how many moves were written */
+};
+
+struct uttt_referee_answer {
+    uint32_t code;
+    uint64_t index;
+    uint32_t value; /* UTTT_TRUE or UTTT_FALSE; 0 with a refusal */
+};
+
+struct uttt_result {
+    uint32_t verdict;   /* UTTT_TRUE if proof is 0, UTTT_FALSE if disproof is 0, else UTTT_UNKNOWN */
+    uint32_t proof;     /* the root's proof number when the search ended */
+    uint32_t disproof;  /* the root's disproof number */
+    uint64_t allocated; /* nodes made, the root too */
+    uint64_t freed;     /* nodes freed; live nodes are allocated minus freed */
+    uint64_t proved;    /* expanded nodes that were proved */
+    uint64_t disproved; /* expanded nodes that were disproved */
+    uint64_t expanded;  /* expansions, what the budget counts */
+    uint32_t cause;     /* enum uttt_cause */
+};
+
+struct uttt_search_answer {
+    uint32_t code;
+    uint64_t index; /* 0 */
+    struct uttt_result result;
+};
+
+struct uttt_full_answer {
+    uint32_t code;
+    uint64_t index;            /* 0 */
+    uint32_t verdict;          /* enum uttt_full */
+    struct uttt_result first;  /* under rule 1 */
+    struct uttt_result second; /* under rule 2 */
+};
+
+/*
+ * Plays the moves from the record, up to the first bad one, and writes the record afterwards to the first 21 bytes of
+ * output; the others are left alone. No moves give the record itself.
+ */
+struct uttt_replay_answer uttt_replay(const uint8_t *record, size_t record_length,
+                                      const uint8_t *moves, size_t moves_length,
+                                      uint8_t *output, size_t output_length);
+
+/*
+ * Writes the legal moves from the front of output on, by board, then cell; none if the game is over. The output needs
+ * 81 bytes whatever their count; those past the last move are left alone.
+ */
+struct uttt_moves_answer uttt_legal_moves(const uint8_t *record, size_t record_length,
+                                          uint8_t *output, size_t output_length);
+
+/* The value of a small ending, by going through everything that can follow. rule is 0 to 2. */
+struct uttt_referee_answer uttt_referee(const uint8_t *record, size_t record_length, uint64_t rule);
+
+/*
+ * Searches the record's position under a rule. After every interval-th expansion more than limit live nodes end the
+ * search. A True or False is the position's value under the rule; Unknown comes with a cause. A finished game is
+ * answered without an expansion.
+ */
+struct uttt_search_answer uttt_search(const uint8_t *record, size_t record_length,
+                                      uint32_t *pool, size_t pool_words,
+                                      uint64_t rule, uint64_t limit, uint64_t budget, uint64_t interval);
+
+/*
+ * Searches under rule 1, then under rule 2, one after the other in the same pool, each with the whole budget: win if
+ * the first is True, loss if the second is False, draw if they are False and True, at least a draw if Unknown and True,
+ * at most a draw if False and Unknown, otherwise unknown.
+ */
+struct uttt_full_answer uttt_full_verdict(const uint8_t *record, size_t record_length,
+                                          uint32_t *pool, size_t pool_words,
+                                          uint64_t limit, uint64_t budget, uint64_t interval);
+
+#ifdef __cplusplus
+}
+#endif
+
+#endif
