@@ -4,17 +4,17 @@ use mathlib.Core.List.{List, _∷_}
 use mathlib.Core.Bool.{Bool, true, false, cond}
 use Prim.Native.Nat.{ℕ, suc, _+_, _≤_, _<_, min}
 use lib.Dec.{eqb}
-use lib.ListN.{length}
+use lib.ListN.{length, getD}
 use Rattle.rules.specs.Rules.{Player, Position, count}
 use Rattle.machine.specs.Game.{Game, sequences}
 use Rattle.machine.specs.Tree.{Node, u32-max, Children, child, leastDelta, sumPhi, append}
 use Rattle.machine.specs.Machine.{Counts, Ancestor, State, state, store, climb}
-use Rattle.machine.specs.Place.{sizesOf}
+use Rattle.machine.specs.Place.{AncestorOk, Above, sizesOf}
 use Rattle.machine.specs.Climb.{Climbing, CountsFit}
 use Rattle.plain.specs.Plain.{game}
 use Rattle.prove.specs.Numbers.{Pair}
 use Rattle.words.specs.Packed.{View}
-use Rattle.words.specs.Words.{Beyond}
+use Rattle.words.specs.Words.{SIBLING, word, Slot, Beyond}
 use Rattle.words.specs.Walks.{Walkable}
 use Rattle.node_pool.specs.declared.Pool.{Pool}
 use Rattle.prover.specs.declared.Prover.{Prover}
@@ -28,6 +28,35 @@ pub record Recomputable (w : List ℕ) (first : ℕ) : Type 0 where
 
 abbrev pub Recomputes : List ℕ → ℕ → ℕ → ℕ → Type 0
 Recomputes w first phi delta = (g : Recomputable w first) → Pair phi delta (leastDelta (g .walk .list)) (min (sumPhi (g .walk .list)) u32-max)
+
+-- Found: then the least delta is no more
+abbrev pub Finds : List ℕ → ℕ → ℕ → Bool → Type 0
+Finds w first delta r = r ≡ true → (g : Recomputable w first) → leastDelta (g .walk .list) ≤ delta
+
+-- The siblings from `first` on, of which one, with its number, has a new delta; no other is below the phi that the node above them had
+pub record Lowering (w : List ℕ) (first number held delta : ℕ) : Type 0 where
+  pub view : View Position
+  pub walk : Walkable view w first
+  pub slot : Slot w number
+  pub rest : Walkable view w (word w number SIBLING)
+  pub among : leastDelta (walk .list) ≤ leastDelta (rest .list)
+  pub others : ℕ
+  pub least-is : leastDelta (walk .list) ≡ min delta others
+  pub low : held ≤ others
+
+abbrev pub Lowers : List ℕ → ℕ → ℕ → ℕ → ℕ → ℕ → Type 0
+Lowers w first number held delta r = (g : Lowering w first number held delta) → r ≡ leastDelta (g .walk .list)
+
+-- One of them has a new phi; with its old one the others gave the delta that the node above them had
+pub record Adding (w : List ℕ) (first held was phi : ℕ) : Type 0 where
+  pub view : View Position
+  pub walk : Walkable view w first
+  pub others : ℕ
+  pub sum-is : sumPhi (walk .list) ≡ phi + others
+  pub held-is : held ≡ min (was + others) u32-max
+
+abbrev pub Adds : List ℕ → ℕ → ℕ → ℕ → ℕ → ℕ → Type 0
+Adds w first held was phi r = (g : Adding w first held was phi) → r ≡ min (sumPhi (g .walk .list)) u32-max
 
 abbrev pub zeros : ℕ → ℕ  -- 1 for 0, and 0 for any other number
 zeros n = cond (eqb n 0) 1 0
@@ -66,12 +95,15 @@ pub record Climbed (w path : List ℕ) (x : Prover) (phi delta : ℕ) (g : Climb
 abbrev pub Climbs : List ℕ → List ℕ → Prover → ℕ → ℕ → List ℕ → Prover → Type 0
 Climbs w path x phi delta v r = (g : Climbable w path x phi delta) → Climbed w path x phi delta g v r
 
--- On the way up: a state whose step 5 comes to that of the whole, its numbers worked out; the current node and those above may each be counted once
+-- On the way up: a state whose step 5 comes to that of the whole, its numbers worked out; those above have theirs from the current node as it was;
+-- it and those above may each be counted once
 pub record Going (rule : ℕ) (side : Player) (w path ps : List ℕ) (x : Prover) (phi delta : ℕ) (whole : State Position) : Type 0 where
   pub at : State Position
   pub stands : Stands rule side w path ps x at
   pub phi-is : phi ≡ leastDelta (at .below)
   pub delta-is : delta ≡ min (sumPhi (at .below)) u32-max
+  pub start : Position
+  pub kept : Above (game rule side) start (at .above) (at .node)
   pub proved-room : at .counts .proved + length (at .above) < at .counts .expanded
   pub disproved-room : at .counts .disproved + length (at .above) < at .counts .expanded
   pub leads : climbed (game rule side) at ≡ whole
@@ -94,8 +126,8 @@ pub record Stored (w path : List ℕ) (x : Prover) (phi delta : ℕ) (g : Ascend
 abbrev pub Stores : List ℕ → List ℕ → Prover → ℕ → ℕ → List ℕ → Prover → Type 0
 Stores w path x phi delta v r = (g : Ascending w path x phi delta) → Stored w path x phi delta g v r
 
--- A state with a node above the current one stands there
-pub record Raisable (w path : List ℕ) (x : Prover) : Type 0 where
+-- A state with a node above the current one stands there. That one's numbers are from the current node as it was, with the phi `old`; its number in the pool is `number`, and it has phi and delta now
+pub record Raisable (w path : List ℕ) (x : Prover) (number old phi delta : ℕ) : Type 0 where
   pub rule : ℕ
   pub side : Player
   pub ps : List ℕ
@@ -105,16 +137,22 @@ pub record Raisable (w path : List ℕ) (x : Prover) : Type 0 where
   pub node : Node Position
   pub below : Children Position
   pub stands : Stands rule side w path ps x (state counts (up ∷ above) node below)
+  pub number-is : number ≡ getD path (x .depth) 0
+  pub was : Node Position
+  pub kept : AncestorOk (game rule side) up was
+  pub old-is : old ≡ was .phi
+  pub phi-is : phi ≡ node .phi
+  pub delta-is : delta ≡ node .delta
 
 -- It is seen from the node above, whose numbers are worked out
-pub record Raised (w path : List ℕ) (x : Prover) (g : Raisable w path x) (k : Ascent) : Type 0 where
+pub record Raised (w path : List ℕ) (x : Prover) (number old phi delta : ℕ) (g : Raisable w path x number old phi delta) (k : Ascent) : Type 0 where
   pub going-is : k .going ≡ true
   pub stands : Stands (g .rule) (g .side) w path (g .ps) (k .prover) (state (g .counts) (g .above) (g .up .node) (append (g .up .before) (child (g .node) (g .below) (g .up .after))))
   pub phi-is : k .phi ≡ leastDelta (append (g .up .before) (child (g .node) (g .below) (g .up .after)))
   pub delta-is : k .delta ≡ min (sumPhi (append (g .up .before) (child (g .node) (g .below) (g .up .after)))) u32-max
 
-abbrev pub Raises : List ℕ → List ℕ → Prover → Ascent → Type 0
-Raises w path x k = (g : Raisable w path x) → Raised w path x g k
+abbrev pub Raises : List ℕ → List ℕ → Prover → ℕ → ℕ → ℕ → ℕ → Ascent → Type 0
+Raises w path x number old phi delta k = (g : Raisable w path x number old phi delta) → Raised w path x number old phi delta g k
 
 -- The climb goes on from here, or this is where it ends
 abbrev pub Way : Bool → ℕ → Player → List ℕ → List ℕ → List ℕ → Prover → ℕ → ℕ → State Position → Type 0

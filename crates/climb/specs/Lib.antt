@@ -1,3 +1,4 @@
 pub mod Asks
+pub mod Changed
 pub mod Storing
 pub mod Turns

@@ -8,21 +8,23 @@ use lib.Dec.{eqb}
 use lib.ListN.{length, getD}
 use Rattle.rules.specs.Rules.{Player, Position}
 use Rattle.machine.specs.Game.{Game}
-use Rattle.machine.specs.Tree.{Node, u32-max, Children, child, leastDelta, sumPhi, append, proofOf, disproofOf}
+use Rattle.machine.specs.Tree.{Node, u32-max, Children, none, child, size, leastDelta, sumPhi, append, proofOf, disproofOf}
 use Rattle.machine.specs.Machine.{Counts, Ancestor, State, state, renumber, unchanged, store, climb}
 use Rattle.machine.specs.Numbers.{unsolved, tally}
-use Rattle.machine.specs.Place.{innerAt, inner-inner, sizes}
+use Rattle.machine.specs.Place.{Above, innerAt, inner-inner, sizes, size-append}
 use Rattle.machine.specs.Climb.{climb-stay, climb-root, climb-next}
 use Rattle.plain.specs.Plain.{game}
 use Rattle.words.specs.Packed.{view}
-use Rattle.words.specs.Words.{PHI, DELTA, FIRST, word, Slot, Beyond}
+use Rattle.words.specs.Words.{PHI, DELTA, FIRST, SIBLING, word, Slot, Beyond}
+use Rattle.words.specs.Walks.{Walkable}
 use Rattle.words.specs.Pool.{Holds, holding-few}
 use Rattle.words.specs.Steps.{line-root}
 use Rattle.words.specs.States.{holds-up}
 use Rattle.prover.specs.declared.Prover.{Prover}
 use Rattle.prover.specs.Stands.{Positions, Stands}
 use Rattle.climb.specs.declared.Ascent.{Ascent}
-use Rattle.climb.specs.Asks.{zeros, Recomputable, Recomputes, climbed, Climbable, Going, Ascending, Stored, Way, Raisable, Raised, Raises, Ascended}
+use Rattle.climb.specs.Asks.{zeros, Recomputable, Lowering, Lowers, Adding, Adds, climbed, Climbable, Going, Ascending, Stored, Way, Raisable, Raised, Raises, Ascended}
+use Rattle.climb.specs.Changed.{least-apart, sum-apart, least-after, line-after}
 
 zeros-le : (n : ℕ) → zeros n ≤ 1
 zeros-le zero = omega arith
@@ -56,15 +58,24 @@ starts g =
       stands = g .stands;
       phi-is = g .phi-is;
       delta-is = g .delta-is;
+      start = g .start;
+      kept = g .climbing .above;
       proved-room = omega (arith, g .counts-fit .solved-once);
       disproved-room = omega (arith, g .counts-fit .solved-once);
       leads = refl;
     }
 
+-- The siblings after the one with the new delta
+unfoldable pub later : {w : List ℕ} {first number held delta : ℕ} (g : Lowering w first number held delta) (next : ℕ) → next ≡ word w number SIBLING → Recomputable w next
+later g next e = record { view = g .view; walk = record { list = g .rest .list; part = rw e (g .rest .part); few = g .rest .few } }
+
 -- The node above, as ascend needs it
-module _ (w path : List ℕ) (x : Prover) (g : Raisable w path x) where
+module _ (w path : List ℕ) (x : Prover) (number old phi delta : ℕ) (g : Raisable w path x number old phi delta) where
   all : Children Position
   all = append (g .up .before) (child (g .node) (g .below) (g .up .after))
+
+  abbrev others : Children Position
+  others = append (g .up .before) (g .up .after)
 
   pub raised-place : 0 < x .depth
   raised-place = omega (arith, depth-is (g .stands))
@@ -92,21 +103,52 @@ module _ (w path : List ℕ) (x : Prover) (g : Raisable w path x) where
   unfolding shallower
   raised-slot = raised .tree .tree .node .slot
 
-  walked : Recomputable w (word w (getD path (x .depth - 1) 0) FIRST)
-  unfolding shallower
-  walked =
-      let t = raised .tree .tree in
-      record { view = view (game (g .rule) (g .side)); walk = record { list = all; part = t .below; few = omega (arith, holding-few (view (game (g .rule) (g .side))) w path _ _ _ _ _ _ _ _ t) } }
+  -- Its children, from `first` on, and the numbers that it had
+  module _ (first : ℕ) (first-is : first ≡ word w (getD path (x .depth - 1) 0) FIRST) where
+    walk : Walkable (view (game (g .rule) (g .side))) w first
+    unfolding shallower
+    walk =
+        let t = raised .tree .tree in
+        record { list = all; part = rw first-is (t .below); few = omega (arith, holding-few (view (game (g .rule) (g .side))) w path _ _ _ _ _ _ _ _ t) }
 
-  pub raised-list : (first : ℕ) → first ≡ word w (getD path (x .depth - 1) 0) FIRST → Recomputable w first
-  raised-list first e = rw e walked
+    after : Walkable (view (game (g .rule) (g .side))) w (word w number SIBLING)
+    unfolding all walk size
+    after =
+        let e = g .number-is in
+        record {
+          list = g .up .after;
+          part = rw e (line-after (view (game (g .rule) (g .side))) w path (x .depth) (g .up) (g .above) (g .stands .tree .tree .above));
+          few = omega (arith, walk .few, size-append (g .up .before) (child (g .node) (g .below) (g .up .after)));
+        }
 
-  pub raises : (first phi delta : ℕ) → first ≡ word w (getD path (x .depth - 1) 0) FIRST → Recomputes w first phi delta
-      → Raised w path x g (record { going = true; phi = phi; delta = delta; prover = record { depth = x .depth - 1; pool = x .pool; proved = x .proved; disproved = x .disproved; expanded = x .expanded } })
-  unfolding shallower all walked
-  raises first phi delta e r =
-      let n = subst (λ (y : ℕ). Recomputes w y phi delta) e r walked in
-      record { going-is = refl; stands = raised; phi-is = n .phi-is; delta-is = n .delta-is }
+    pub raised-least : (held : ℕ) → held ≡ word w (getD path (x .depth - 1) 0) PHI → Lowering w first number held delta
+    unfolding shallower all walk after
+    raised-least held e = record {
+      view = view (game (g .rule) (g .side));
+      walk = walk;
+      slot = rw (g .number-is) (g .stands .tree .tree .node .slot);
+      rest = after;
+      among = least-after (g .node) (g .below) (g .up .after) (g .up .before);
+      others = leastDelta others;
+      least-is = rw (g .delta-is) (least-apart (g .node) (g .below) (g .up .after) (g .up .before));
+      low = omega (arith, raised .tree .tree .node .phi-is, g .kept .mid .phi-is, least-apart (g .was) none (g .up .after) (g .up .before));
+    }
+
+    pub raised-sum : (held : ℕ) → held ≡ word w (getD path (x .depth - 1) 0) DELTA → Adding w first held old phi
+    unfolding shallower all walk
+    raised-sum held e = record {
+      view = view (game (g .rule) (g .side));
+      walk = walk;
+      others = sumPhi others;
+      sum-is = rw (g .phi-is) (sum-apart (g .node) (g .below) (g .up .after) (g .up .before));
+      held-is = omega (arith, raised .tree .tree .node .delta-is, g .kept .mid .delta-is, g .old-is, sum-apart (g .was) none (g .up .after) (g .up .before));
+    }
+
+    pub raises : (held-phi held-delta next-phi next-delta : ℕ) → held-phi ≡ word w (getD path (x .depth - 1) 0) PHI → held-delta ≡ word w (getD path (x .depth - 1) 0) DELTA
+        → Lowers w first number held-phi delta next-phi → Adds w first held-delta old phi next-delta
+        → Raised w path x number old phi delta g (record { going = true; phi = next-phi; delta = next-delta; prover = record { depth = x .depth - 1; pool = x .pool; proved = x .proved; disproved = x .disproved; expanded = x .expanded } })
+    unfolding shallower all walk raised-least raised-sum
+    raises held-phi held-delta next-phi next-delta p d f s = record { going-is = refl; stands = raised; phi-is = f (raised-least held-phi p); delta-is = s (raised-sum held-delta d) }
 
 -- One turn
 module _ (w path : List ℕ) (x : Prover) (phi delta : ℕ) (g : Ascending w path x phi delta) where
@@ -146,9 +188,12 @@ module _ (w path : List ℕ) (x : Prover) (phi delta : ℕ) (g : Ascending w pat
           (sym (climb-top G (s .counts) (s .node) (s .below) (s .above) (depth-is (q .stands) ∙ z) (unchanged-is ∙ changed)) ∙ g .going .leads) (q .stands))
 
       -- Changed, below the root
-      seen : (a : Ancestor Position) (up : List (Ancestor Position)) → s .above ≡ a ∷ up → Raisable v path r
-      unfolding store
-      seen a up e =
+      above : (a : Ancestor Position) (up : List (Ancestor Position)) → s .above ≡ a ∷ up → Above G (g .going .start) (a ∷ up) (s .node)
+      above a up e = subst (λ (l : List (Ancestor Position)). Above G (g .going .start) l (s .node)) e (g .going .kept)
+
+      seen : (old : ℕ) → old ≡ word w (getD path (x .depth) 0) PHI → (a : Ancestor Position) (up : List (Ancestor Position)) → s .above ≡ a ∷ up → Raisable v path r (getD path (x .depth) 0) old phi delta
+      unfolding store renumber
+      seen old o a up e =
           let t = store G (s .counts) (s .above) (s .node) (s .below) in
           record {
             rule = g .rule;
@@ -160,25 +205,31 @@ module _ (w path : List ℕ) (x : Prover) (phi delta : ℕ) (g : Ascending w pat
             node = t .node;
             below = t .below;
             stands = subst (λ (l : List (Ancestor Position)). Stands (g .rule) (g .side) v path (g .ps) r (state (t .counts) l (t .node) (t .below))) e (q .stands);
+            number-is = ap (λ (y : ℕ). getD path y 0) (sym (depth-is (g .going .stands)) ∙ depth-is (q .stands));
+            was = s .node;
+            kept = above a up e .0;
+            old-is = o ∙ g .going .stands .tree .tree .node .phi-is;
+            phi-is = g .going .phi-is;
+            delta-is = g .going .delta-is;
           }
 
-      pub turn-asks : (r .depth ≡ 0 → ⊥) → Raisable v path r
+      pub turn-asks : (old : ℕ) → old ≡ word w (getD path (x .depth) 0) PHI → (r .depth ≡ 0 → ⊥) → Raisable v path r (getD path (x .depth) 0) old phi delta
       unfolding store
-      turn-asks z = go (s .above) refl
+      turn-asks old o z = go (s .above) refl
         where
-          go : (l : List (Ancestor Position)) → s .above ≡ l → Raisable v path r
+          go : (l : List (Ancestor Position)) → s .above ≡ l → Raisable v path r (getD path (x .depth) 0) old phi delta
           go [] e = absurd (z (sym (depth-is (q .stands)) ∙ ap length e))
-          go (a ∷ up) e = seen a up e
+          go (a ∷ up) e = seen old o a up e
 
-      pub turn-up : (r .depth ≡ 0 → ⊥) → (k : Ascent) → Raises v path r k → Ascended w path x phi delta g v k
+      pub turn-up : (old : ℕ) → old ≡ word w (getD path (x .depth) 0) PHI → (r .depth ≡ 0 → ⊥) → (k : Ascent) → Raises v path r (getD path (x .depth) 0) old phi delta k → Ascended w path x phi delta g v k
       unfolding store seen
-      turn-up z k f = go (s .above) refl
+      turn-up old o z k f = go (s .above) refl
         where
           go : (l : List (Ancestor Position)) → s .above ≡ l → Ascended w path x phi delta g v k
           go [] e = absurd (z (sym (depth-is (q .stands)) ∙ ap length e))
           go (a ∷ up) e =
               let t = store G (s .counts) (s .above) (s .node) (s .below) in
-              let d = f (seen a up e) in
+              let d = f (seen old o a up e) in
               let n = renumber G (s .node) (s .below) in
               let long = ap length e in
               let there = append (a .before) (child (t .node) (t .below) (a .after)) in
@@ -187,6 +238,8 @@ module _ (w path : List ℕ) (x : Prover) (phi delta : ℕ) (g : Ascending w pat
                 stands = d .stands;
                 phi-is = d .phi-is;
                 delta-is = d .delta-is;
+                start = g .going .start;
+                kept = above a up e .1;
                 proved-room = omega (arith, g .going .proved-room, zeros-le (proofOf G n));
                 disproved-room = omega (arith, g .going .disproved-room, zeros-le (disproofOf G n));
                 leads = sym (climb-next G (s .counts) (s .node) (s .below) a up (unchanged-is ∙ changed)) ∙ ap (λ (l : List (Ancestor Position)). climb G l (s .counts) (s .node) (s .below)) (sym e) ∙ g .going .leads;

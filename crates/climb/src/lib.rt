@@ -7,7 +7,7 @@ ghost use lib.Dec.{eqb};
 ghost use lib.ListN.{length};
 ghost use Rattle.words.specs.Words.{PHI, DELTA, word, Slot};
 ghost use Rattle.words.specs.Freeing.{plies};
-ghost use Rattle.climb.specs.Asks.{Recomputable, Recomputes, zeros, Counted, Climbable, Climbs, Ascending, Stores, Raisable, Raises, Ascends};
+ghost use Rattle.climb.specs.Asks.{Recomputable, Recomputes, Finds, Lowering, Lowers, Adding, Adds, zeros, Counted, Climbable, Climbs, Ascending, Stores, Raisable, Raises, Ascends};
 use node_pool::NodeID;
 use node_pool::PLIES;
 use node_pool::Pool;
@@ -38,6 +38,51 @@ pub fn recompute(words: &[u32], first: NodeID) -> Bounds
         id = node_pool::sibling(words, id);
     }
     Bounds { phi, delta }
+}
+
+// One of the siblings from `first` on has this delta.
+fn has_delta(words: &[u32], first: NodeID, delta: u32) -> bool
+    requires { ⌜ Recomputable (now words) (first .0) ⌝ }
+    ensures { λ r. ⌜ Finds (now (words .entry)) (first .0) delta r ⌝ }
+{
+    let mut id = first;
+    while id.exists() {
+        if node_pool::delta(words, id) == delta {
+            return true;
+        }
+        id = node_pool::sibling(words, id);
+    }
+    false
+}
+
+// The phi of a node that had the phi `held`, where one of its children has a new delta. Step 2 takes the first child with
+// the delta `held`: if there is still one, it comes later.
+fn raised_phi(words: &[u32], first: NodeID, child: NodeID, held: u32, delta: u32) -> u32
+    requires { ⌜ Lowering (now words) (first .0) (child .0) held delta ⌝ }
+    ensures { λ r. ⌜ Lowers (now (words .entry)) (first .0) (child .0) held delta r ⌝ }
+{
+    if delta <= held {
+        return delta;
+    }
+    let next = node_pool::sibling(words, child);
+    if has_delta(words, next, held) {
+        return held;
+    }
+    let bounds = recompute(words, first);
+    bounds.phi
+}
+
+// The delta of a node that had the delta `held`, where one of its children had the phi `was` and has a new one. Where the
+// sum was held at the largest number, it is summed anew.
+fn raised_delta(words: &[u32], first: NodeID, held: u32, was: u32, phi: u32) -> u32
+    requires { ⌜ Adding (now words) (first .0) held was phi ⌝ }
+    ensures { λ r. ⌜ Adds (now (words .entry)) (first .0) held was phi r ⌝ }
+{
+    if held == prove::MOST {
+        let bounds = recompute(words, first);
+        return bounds.delta;
+    }
+    prove::held_sum(held - was, phi)
 }
 
 // Both numbers of the node are these.
@@ -109,15 +154,26 @@ fn store(
     }
 }
 
-// One node up, with its numbers worked out from its children.
-fn ascend(words: &[u32], path: &[u32; PLIES], x: Prover) -> Ascent
-    requires { ⌜ Raisable (now words) (now path) x ⌝ }
-    ensures { λ r. ⌜ Raises (now (words .entry)) (now (path .entry)) x r ⌝ }
+// One node up, with its numbers worked out from those it had: the child below had the phi `was`, and has phi and delta now.
+fn ascend(
+    words: &[u32],
+    path: &[u32; PLIES],
+    x: Prover,
+    child: NodeID,
+    was: u32,
+    phi: u32,
+    delta: u32,
+) -> Ascent
+    requires { ⌜ Raisable (now words) (now path) x (child .0) was phi delta ⌝ }
+    ensures { λ r. ⌜ Raises (now (words .entry)) (now (path .entry)) x (child .0) was phi delta r ⌝ }
 {
     let above = x.depth - 1;
     let id = NodeID(path[above]);
     let first = node_pool::first_child(words, id);
-    let bounds = recompute(words, first);
+    let held_phi = node_pool::phi(words, id);
+    let held_delta = node_pool::delta(words, id);
+    let next_phi = raised_phi(words, first, child, held_phi, delta);
+    let next_delta = raised_delta(words, first, held_delta, was, phi);
     let pool = x.pool;
     let prover = Prover {
         depth: above,
@@ -128,8 +184,8 @@ fn ascend(words: &[u32], path: &[u32; PLIES], x: Prover) -> Ascent
     };
     Ascent {
         going: true,
-        phi: bounds.phi,
-        delta: bounds.delta,
+        phi: next_phi,
+        delta: next_delta,
         prover,
     }
 }
@@ -156,6 +212,7 @@ fn climb_step(words: &mut [u32], path: &[u32; PLIES], todo: &mut [u32; PLIES], k
     let x = k.prover;
     let place = x.depth;
     let id = NodeID(path[place]);
+    let was = node_pool::phi(words, id);
     if unchanged(words, id, k.phi, k.delta) {
         return ended(x);
     }
@@ -163,7 +220,7 @@ fn climb_step(words: &mut [u32], path: &[u32; PLIES], todo: &mut [u32; PLIES], k
     if y.depth == 0 {
         return ended(y);
     }
-    ascend(words, path, y)
+    ascend(words, path, y, id, was, k.phi, k.delta)
 }
 
 // Step 5: from the current node upward, until a node is unchanged or the root is done. phi and delta are the current
