@@ -8,10 +8,14 @@ export ULTIMATTT_SRC ULTIMATTT_LIB
 JOBS ?= 2
 SEED ?= 1
 CALLS ?= 200000
+FUZZ_CALLS ?= 100000
+FUZZ_SECONDS ?= 60
+ROUNDS ?= 5
 CARGO = cargo
-BUILD = $(CARGO) build --manifest-path harness/Cargo.toml --release --offline --locked -j $(JOBS)
+BUILD_IN = $(CARGO) build --manifest-path harness/Cargo.toml --offline --locked -j $(JOBS)
+BUILD = $(BUILD_IN) --release
 
-.PHONY: test judge library uttt answers oracle-test compare bindings-test examples
+.PHONY: test judge library uttt answers oracle-test fuzz compare bench bindings-test examples
 
 # Every crate proved from nothing, every must-fail edit refused, every program's output as stored. Nothing is printed after rt's last line.
 test:
@@ -39,10 +43,21 @@ answers:
 oracle-test:
 	$(CARGO) test --manifest-path harness/Cargo.toml --offline --locked -j $(JOBS) -p calls -p oracle
 
-# The library and the original on the same calls.
-compare: library
+# The library's exports on random and damaged bytes, every buffer between guard pages. First libraries with one thing wrong: each must be caught.
+fuzz: library
+	$(BUILD) -p fuzz
+	harness/target/release/fuzz wrong
+	harness/target/release/fuzz $(SEED) $(FUZZ_CALLS) $(FUZZ_SECONDS)
+
+# The library and the original on the same calls, after the fuzz.
+compare: library fuzz
 	$(BUILD) -p compare
 	harness/target/release/compare $(SEED) $(CALLS)
+
+# The library and the original on the same searches, timed: the tables of docs/SPEED.md.
+bench: library
+	$(BUILD_IN) --profile speed -p bench
+	harness/target/speed/bench $(ROUNDS)
 
 # The Rust wrapper's own tests, over the library.
 bindings-test: library

@@ -1,4 +1,4 @@
-//! The exports as include/ultimattt.h has them. Nothing but the sizes below holds these declarations to the library.
+//! The exports as include/ultimattt.h has them. tests/declarations.rs holds these declarations to the library's text.
 
 use std::mem::size_of;
 
@@ -23,6 +23,7 @@ pub struct RefereeAnswer {
 }
 
 #[repr(C)]
+#[derive(Clone, Copy, Default, PartialEq, Eq)]
 pub struct ResultFields {
     pub verdict: u32,
     pub proof: u32,

@@ -1,6 +1,7 @@
 //! The proved library behind the same calls and answers as the oracle.
 
-mod ffi;
+#[path = "../../../bindings/rust/src/ffi.rs"]
+pub mod ffi;
 mod lent;
 pub mod ours;
 mod pool;

@@ -91,7 +91,7 @@ fn search(record: &[u8], rule: u64, nodes: u64, limits: [u64; 3], pattern: u8) -
     let answered = pool::lend(nodes, pattern, call, |answered| answered.code == 0)?;
     same("record", &record_before, record)?;
     if answered.code != 0 {
-        return settings_refusal(answered.code, answered.index, answered.result == ffi::Fields::default());
+        return settings_refusal(answered.code, answered.index, answered.result == ffi::ResultFields::default());
     }
     if answered.index != 0 {
         return Err(format!("answered with index {}", answered.index));
@@ -110,7 +110,7 @@ fn full(record: &[u8], nodes: u64, limits: [u64; 3], pattern: u8) -> Result<Answ
     let answered = pool::lend(nodes, pattern, call, |answered| answered.code == 0)?;
     same("record", &record_before, record)?;
     if answered.code != 0 {
-        let zeros = answered.verdict == 0 && [answered.first, answered.second] == [ffi::Fields::default(); 2];
+        let zeros = answered.verdict == 0 && [answered.first, answered.second] == [ffi::ResultFields::default(); 2];
         return settings_refusal(answered.code, answered.index, zeros);
     }
     if answered.index != 0 {
@@ -128,7 +128,7 @@ fn full(record: &[u8], nodes: u64, limits: [u64; 3], pattern: u8) -> Result<Answ
     Ok(Answer::Full(verdict, fields(answered.first)?, fields(answered.second)?))
 }
 
-fn fields(result: ffi::Fields) -> Result<Fields, String> {
+fn fields(result: ffi::ResultFields) -> Result<Fields, String> {
     Ok(Fields {
         verdict: match result.verdict {
             0 => Verdict::Unknown,

@@ -1,0 +1,54 @@
+//! The searches that are run on both sides.
+
+use calls::record::{Position, LENGTH};
+
+/// The largest pool that the library takes; every search is lent this one.
+pub const POOL_NODES: usize = 16_777_216;
+/// Words of a node.
+const NODE_WORDS: usize = 5;
+pub const POOL_WORDS: usize = NODE_WORDS * POOL_NODES;
+/// The original's rule, its own interval, and no limit.
+pub const RULE: u64 = 0;
+pub const INTERVAL: u64 = 10_000;
+pub const LIMIT: u64 = u64::MAX;
+/// More expansions than any search of a solved ending takes.
+const WHOLE: u64 = 100_000_000;
+
+const M1: &str = "33 35 53 32 26 60 00 08 85 51 12 23 30 04 40 06 65 56 62 28 83 37 70 02 21 15 52 24 48 86 68 82";
+const M2: &str = "17 71 16 68 80 07 70 04 43 33 34 44 40 03 37 76 64 48 88 84 45 55 56 62 24 46 65 52 25 57 73 32 \
+                  28 85 50 00 08 82 23 30";
+const M4: &str = "17 71 16 68 80 07 70 04 43 33 34 44 40 03 37 76 64 48 88 84 45 55 56 62 24 46 65 52 25 57 73 32 \
+                  28 85 50 00 08 82 23 30 06 60 01 10";
+
+pub struct Search {
+    pub name: &'static str,
+    pub what: &'static str,
+    /// The moves that lead to it from the empty board.
+    moves: &'static str,
+    pub budget: u64,
+    /// How many rounds are run for each one asked for: short searches vary more.
+    pub times: usize,
+}
+
+pub const TIMED: [Search; 5] = [
+    Search { name: "E", what: "empty board", moves: "", budget: 200_000, times: 3 },
+    Search { name: "E-large", what: "empty board, the pool filled", moves: "", budget: 1_900_000, times: 1 },
+    Search { name: "M1", what: "middle game, 32 moves", moves: M1, budget: 300_000, times: 3 },
+    Search { name: "M4", what: "ending after 44 moves, solved", moves: M4, budget: WHOLE, times: 5 },
+    Search { name: "M2", what: "ending after 40 moves, solved", moves: M2, budget: WHOLE, times: 1 },
+];
+
+/// Those whose instructions are counted.
+pub const COUNTED: [Search; 2] = [
+    Search { name: "E", what: "empty board", moves: "", budget: 50_000, times: 1 },
+    Search { name: "M4", what: "ending after 44 moves, solved", moves: M4, budget: WHOLE, times: 1 },
+];
+
+impl Search {
+    /// The record of the position, by the original's own moves.
+    pub fn record(&self) -> [u8; LENGTH] {
+        let moves: Vec<u8> =
+            self.moves.split_whitespace().map(|m| u8::from_str_radix(m, 16).expect("a move is two digits")).collect();
+        original::replay(&Position::start().write(), &moves).expect("the moves are legal")
+    }
+}

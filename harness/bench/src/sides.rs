@@ -1,0 +1,55 @@
+//! One search on either side.
+
+use crate::searches::{Search, INTERVAL, LIMIT, POOL_NODES, POOL_WORDS, RULE};
+use calls::line::Verdict;
+use calls::Fields;
+use uttt::ffi;
+
+/// The original, which sets up its slabs itself.
+pub fn original(search: &Search) -> Fields {
+    original::search(&search.record(), RULE, POOL_NODES as u64, LIMIT, search.budget, INTERVAL)
+}
+
+/// The library with a pool that is lent to it.
+pub fn ours(search: &Search, pool: &mut [u32]) -> Fields {
+    let record = search.record();
+    // SAFETY: pointers and lengths belong together, and the buffers are apart.
+    let answer = unsafe {
+        ffi::uttt_search(
+            record.as_ptr(),
+            record.len(),
+            pool.as_mut_ptr(),
+            pool.len(),
+            RULE,
+            LIMIT,
+            search.budget,
+            INTERVAL,
+        )
+    };
+    assert_eq!(answer.code, 0, "{} was refused", search.name);
+    fields(answer.result)
+}
+
+/// The library with a pool made for this search and given back after it.
+pub fn ours_fresh(search: &Search) -> Fields {
+    ours(search, &mut vec![0; POOL_WORDS])
+}
+
+fn fields(result: ffi::ResultFields) -> Fields {
+    Fields {
+        verdict: match result.verdict {
+            0 => Verdict::Unknown,
+            1 => Verdict::True,
+            2 => Verdict::False,
+            other => panic!("answered with verdict {}", other),
+        },
+        proof: result.proof.into(),
+        disproof: result.disproof.into(),
+        allocated: result.allocated,
+        freed: result.freed,
+        proved: result.proved,
+        disproved: result.disproved,
+        expanded: result.expanded,
+        cause: result.cause.into(),
+    }
+}

@@ -1,0 +1,150 @@
+//! What any answer must meet, whatever came in. Which refusal is due is asked of `calls::table`; that a result
+//! is the right one is the comparison's to see.
+
+use crate::run::Answered;
+use calls::record::LENGTH;
+use calls::table::{self, MOVES_ROOM, RECORD_ROOM};
+use calls::Call;
+
+const INFINITY: u64 = 2_147_483_648;
+const LARGEST_NUMBER: u64 = 4_294_967_295;
+/// No position has more legal moves.
+const MOST_MOVES: u64 = 81;
+
+pub fn check(call: &Call, a: &Answered) -> Result<(), String> {
+    let due = due(call);
+    let bad_move = due.is_none() && matches!(call, Call::Replay { .. }) && (11..=15).contains(&a.code);
+    if a.code != due.unwrap_or(0) && !bad_move {
+        return Err(format!("code {} where {} is due", a.code, due.unwrap_or(0)));
+    }
+    if a.index != 0 && !bad_move {
+        return Err(format!("index {} with code {}", a.index, a.code));
+    }
+    if a.code != 0 && a.numbers.iter().any(|n| *n != 0) {
+        return Err(format!("code {} with a result, {:?}", a.code, a.numbers));
+    }
+    if a.code == 0 {
+        return result(call, a);
+    }
+    match call {
+        Call::Replay { moves, .. } if bad_move => bad_index(moves, a),
+        _ => Ok(()),
+    }
+}
+
+/// How many bytes of the output the answer has written.
+pub fn written(call: &Call, a: &Answered) -> usize {
+    match call {
+        Call::Moves { .. } if a.code == 0 => a.numbers[0] as usize,
+        Call::Replay { .. } if a.code == 0 => LENGTH,
+        _ => 0,
+    }
+}
+
+/// The refusal of checks 1 to 10 and 16, if one is due.
+fn due(call: &Call) -> Option<u32> {
+    match call {
+        Call::Moves { record, output } => table::output_refusal(record, *output, MOVES_ROOM),
+        Call::Replay { record, output, .. } => table::output_refusal(record, *output, RECORD_ROOM),
+        Call::Referee { record, rule } => table::referee_refusal(record, *rule),
+        Call::Search { record, rule, pool, budget, interval, .. } => {
+            table::search_refusal(record, *rule, *pool, *budget, *interval)
+        }
+        Call::Full { record, pool, budget, interval, .. } => table::full_refusal(record, *pool, *budget, *interval),
+    }
+}
+
+/// The index names a move; a byte that is no move is the first one, and no later one is refused for it.
+fn bad_index(moves: &[u8], a: &Answered) -> Result<(), String> {
+    let no_move = |m: &u8| m / 16 > 8 || m % 16 > 8;
+    match moves.get(a.index as usize) {
+        None => Err(format!("index {} of {} moves", a.index, moves.len())),
+        Some(m) if no_move(m) != (a.code == 11) => Err(format!("code {} for move {:02X}", a.code, m)),
+        Some(_) if moves[..a.index as usize].iter().any(no_move) => Err(format!("index {} is too late", a.index)),
+        Some(_) => Ok(()),
+    }
+}
+
+fn result(call: &Call, a: &Answered) -> Result<(), String> {
+    match call {
+        Call::Moves { .. } => moves(a.numbers[0], &a.output),
+        Call::Replay { record, moves, .. } => replayed(record, moves, &a.output),
+        Call::Referee { .. } => must(matches!(a.numbers[..], [1 | 2]), "the value is 1 or 2"),
+        Call::Search { pool, limit, budget, interval, .. } => search(&a.numbers, [*pool, *limit, *budget, *interval]),
+        Call::Full { pool, limit, budget, interval, .. } => {
+            let settings = [*pool, *limit, *budget, *interval];
+            let (first, second) = a.numbers[1..].split_at(9);
+            search(first, settings)?;
+            search(second, settings)?;
+            must(a.numbers[0] == full(first[0], second[0]), "the full verdict is that of the two verdicts")
+        }
+    }
+}
+
+fn must(holds: bool, what: &str) -> Result<(), String> {
+    holds.then_some(()).ok_or_else(|| format!("it must hold that {}", what))
+}
+
+/// Moves ascend, and each names a board and a cell.
+fn moves(count: u64, output: &[u8]) -> Result<(), String> {
+    must(count <= MOST_MOVES, "there are up to 81 moves")?;
+    let moves = &output[..count as usize];
+    must(moves.iter().all(|m| m / 16 <= 8 && m % 16 <= 8), "a move names a board and a cell")?;
+    must(moves.windows(2).all(|pair| pair[0] < pair[1]), "moves ascend")
+}
+
+/// The record afterwards is accepted, and has one taken cell more for each move.
+fn replayed(record: &[u8], moves: &[u8], output: &[u8]) -> Result<(), String> {
+    let after = &output[..LENGTH];
+    must(table::record_refusal(after).is_none(), "the record afterwards passes checks 1 to 6")?;
+    must(moves.len() <= 81 && taken(record) + moves.len() == taken(after), "every move takes a cell")
+}
+
+fn taken(record: &[u8]) -> usize {
+    let bytes = record.try_into().expect("an accepted record has 21 bytes");
+    81 - calls::Position::read(bytes).count(calls::record::EMPTY)
+}
+
+/// The nine fields of an answered search; settings are pool, limit, budget and interval.
+fn search(numbers: &[u64], [pool, limit, budget, interval]: [u64; 4]) -> Result<(), String> {
+    let [verdict, proof, disproof, allocated, freed, proved, disproved, expanded, cause] = numbers else {
+        return Err(format!("{} fields", numbers.len()));
+    };
+    let (proof, disproof, expanded, cause) = (*proof, *disproof, *expanded, *cause);
+    must(proof.max(disproof) <= LARGEST_NUMBER, "proof and disproof have 32 bits")?;
+    must(allocated > freed, "the root is alive")?;
+    let live = allocated - freed;
+    must(live <= pool, "no more nodes are alive than the pool has")?;
+    must(expanded <= budget, "the budget holds")?;
+    must(proved + disproved <= expanded, "only expanded nodes are counted as proved or disproved")?;
+    match (*verdict, cause) {
+        (1, 0) => must(proof == 0 && disproof >= INFINITY && live == 1, "True is proof 0, and the root alone lives"),
+        (2, 0) => {
+            must(disproof == 0 && proof >= INFINITY && live == 1, "False is disproof 0, and the root alone lives")
+        }
+        (0, 1..=3) => {
+            let open = |n| (1..INFINITY).contains(&n);
+            must(open(proof) && open(disproof), "Unknown is neither 0 nor infinite")?;
+            must(cause != 1 || expanded == budget, "cause 1 is a spent budget")?;
+            must(cause != 2 || pool - live < MOST_MOVES, "cause 2 is a pool nearly full")?;
+            let due = expanded > 0 && expanded % interval == 0;
+            must(cause != 3 || live > limit && due, "cause 3 is a limit passed at an interval")
+        }
+        _ => Err(format!("verdict {} with cause {}", verdict, cause)),
+    }
+}
+
+/// The full verdict's number by the verdicts under rules 1 and 2.
+fn full(first: u64, second: u64) -> u64 {
+    const UNKNOWN: u64 = 0;
+    const TRUE: u64 = 1;
+    const FALSE: u64 = 2;
+    match (first, second) {
+        (TRUE, _) => 1,
+        (_, FALSE) => 2,
+        (FALSE, TRUE) => 3,
+        (UNKNOWN, TRUE) => 4,
+        (FALSE, _) => 5,
+        _ => 0,
+    }
+}

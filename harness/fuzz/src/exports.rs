@@ -1,0 +1,27 @@
+//! The five exports as pointers, so that wrong ones can stand in for them (`wrong`).
+
+use uttt::ffi;
+
+type Replay = unsafe extern "C" fn(*const u8, usize, *const u8, usize, *mut u8, usize) -> ffi::ReplayAnswer;
+type Moves = unsafe extern "C" fn(*const u8, usize, *mut u8, usize) -> ffi::MovesAnswer;
+type Referee = unsafe extern "C" fn(*const u8, usize, u64) -> ffi::RefereeAnswer;
+type Search = unsafe extern "C" fn(*const u8, usize, *mut u32, usize, u64, u64, u64, u64) -> ffi::SearchAnswer;
+type Full = unsafe extern "C" fn(*const u8, usize, *mut u32, usize, u64, u64, u64) -> ffi::FullAnswer;
+
+#[derive(Clone, Copy)]
+pub struct Exports {
+    pub replay: Replay,
+    pub moves: Moves,
+    pub referee: Referee,
+    pub search: Search,
+    pub full: Full,
+}
+
+/// The proved library's.
+pub const LIBRARY: Exports = Exports {
+    replay: ffi::uttt_replay,
+    moves: ffi::uttt_legal_moves,
+    referee: ffi::uttt_referee,
+    search: ffi::uttt_search,
+    full: ffi::uttt_full_verdict,
+};

@@ -1,0 +1,130 @@
+//! Calls to try: the generator's, the same with bytes and settings damaged, and bytes at random.
+
+use calls::table::{LARGEST_BUDGET, LARGEST_POOL};
+use calls::{Call, Kind};
+use oracle::generate::{self, Random};
+
+/// The longest record, list of moves and output.
+pub const LONGEST: usize = 4_096;
+/// The largest pool, in nodes.
+pub const MOST_NODES: u64 = 2 * LARGEST_POOL;
+/// The most expansions by the pool's nodes, so that every call ends soon: with a few hundred nodes it does so
+/// by itself.
+const FEW_NODES: u64 = 300;
+const MANY_NODES: u64 = 3_276;
+const BUDGET_OF_SOME: u64 = 999_983;
+const BUDGET_OF_MANY: u64 = 4_999;
+
+pub fn call(random: &mut Random) -> Call {
+    let kind = random.pick(&Kind::ALL);
+    let mut call = generate::call(random, kind);
+    match random.below(8) {
+        0..=3 => (),
+        4..=6 => damage(random, &mut call),
+        _ => scramble(random, &mut call),
+    }
+    bounded(call)
+}
+
+/// One or two parts of the call changed.
+fn damage(random: &mut Random, call: &mut Call) {
+    for _ in 0..1 + random.below(2) {
+        match (random.below(3), &mut *call) {
+            (0, Call::Replay { moves, .. }) => damage_bytes(random, moves),
+            (0, Call::Search { rule, pool, limit, budget, interval, .. }) => {
+                *one_of(random, [rule, pool, limit, budget, interval]) = number(random)
+            }
+            (0, Call::Full { pool, limit, budget, interval, .. }) => {
+                *one_of(random, [pool, limit, budget, interval]) = number(random)
+            }
+            (0, Call::Referee { rule, .. }) => *rule = number(random),
+            (1, Call::Moves { output, .. } | Call::Replay { output, .. }) => *output = length(random),
+            (_, any) => damage_bytes(random, record_of(any)),
+        }
+    }
+}
+
+/// Everything at random.
+fn scramble(random: &mut Random, call: &mut Call) {
+    *record_of(call) = bytes(random);
+    match call {
+        Call::Moves { output, .. } => *output = length(random),
+        Call::Replay { moves, output, .. } => (*moves, *output) = (bytes(random), length(random)),
+        Call::Referee { rule, .. } => *rule = number(random),
+        Call::Search { rule, pool, limit, budget, interval, .. } => {
+            [rule, pool, limit, budget, interval].into_iter().for_each(|n| *n = number(random))
+        }
+        Call::Full { pool, limit, budget, interval, .. } => {
+            [pool, limit, budget, interval].into_iter().for_each(|n| *n = number(random))
+        }
+    }
+}
+
+fn record_of(call: &mut Call) -> &mut Vec<u8> {
+    match call {
+        Call::Moves { record, .. }
+        | Call::Replay { record, .. }
+        | Call::Search { record, .. }
+        | Call::Full { record, .. }
+        | Call::Referee { record, .. } => record,
+    }
+}
+
+fn damage_bytes(random: &mut Random, bytes: &mut Vec<u8>) {
+    let length = bytes.len();
+    match random.below(6) {
+        0 => bytes.truncate(random.index(length + 1)),
+        1 => bytes.extend((0..1 + random.below(40)).map(|_| random.byte())),
+        2 => *bytes = self::bytes(random),
+        _ if length == 0 => (),
+        3 => bytes[random.index(length)] = random.byte(),
+        4 => bytes.rotate_left(random.index(length)),
+        _ => {
+            for _ in 0..1 + random.below(3) {
+                bytes[random.index(length)] ^= 1 << random.below(8);
+            }
+        }
+    }
+}
+
+fn bytes(random: &mut Random) -> Vec<u8> {
+    (0..length(random)).map(|_| random.byte()).collect()
+}
+
+/// A length: a record's most often, now and then none, or the longest.
+fn length(random: &mut Random) -> usize {
+    match random.below(12) {
+        0 => 0,
+        1 => random.index(LONGEST + 1),
+        2 => LONGEST,
+        3..=6 => random.index(200),
+        _ => 21,
+    }
+}
+
+/// A number of any size, the largest now and then.
+fn number(random: &mut Random) -> u64 {
+    match random.below(10) {
+        0 => u64::MAX,
+        1 => 1 << random.below(64),
+        2 => (1 << random.below(64)) - 1,
+        _ => random.word() >> random.below(64),
+    }
+}
+
+/// Bounds a call's work and its pool: no pool is lent that is larger than twice what the library takes.
+fn bounded(mut call: Call) -> Call {
+    if let Call::Search { pool, budget, .. } | Call::Full { pool, budget, .. } = &mut call {
+        *pool %= MOST_NODES + 1;
+        if *budget <= LARGEST_BUDGET && *pool > FEW_NODES {
+            *budget %= if *pool > MANY_NODES { BUDGET_OF_MANY } else { BUDGET_OF_SOME };
+        }
+    }
+    call
+}
+
+/// One of several, to be changed.
+fn one_of<'a, const N: usize>(random: &mut Random, choices: [&'a mut u64; N]) -> &'a mut u64 {
+    let at = random.index(N);
+    choices.into_iter().nth(at).expect("the index is below the length")
+}

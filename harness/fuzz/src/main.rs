@@ -1,0 +1,159 @@
+//! The exports of the proved library on random and damaged bytes. Every buffer stands between pages that can't
+//! be touched, once with its end and once with its start at one; what is lent to be read can't be written; pools
+//! and outputs hold other words each time. Every answer must be one that document 01 allows for the call, and
+//! the same each time. The first violation is printed with its call, as a line that `uttt` reads, and fails.
+//!
+//! ```text
+//! fuzz [SEED [COUNT [SECONDS]]]    up to COUNT calls, for up to so many seconds
+//! fuzz wrong                       libraries with one thing wrong: each must be caught
+//! fuzz wrong NUMBER                one of those
+//! ```
+
+mod checks;
+mod exports;
+mod filling;
+mod guarded;
+mod inputs;
+mod run;
+mod watch;
+mod wide;
+mod wrong;
+
+use calls::{Call, Kind};
+use exports::{Exports, LIBRARY};
+use guarded::Edge;
+use oracle::generate::Random;
+use run::{Answered, Lender};
+use std::collections::BTreeMap;
+use std::process::{Command, ExitCode};
+use std::time::{Duration, Instant};
+
+const CALLS: u64 = 100_000;
+const SECONDS: u64 = 60;
+/// A call that takes longer has not returned; a wrong library is given less.
+const A_CALL: u32 = 60;
+const A_WRONG_CALL: u32 = 2;
+const WRONG_CALLS: u64 = 5_000;
+
+/// How many calls gave each kind of answer.
+type Tally = BTreeMap<String, u64>;
+
+fn main() -> ExitCode {
+    let arguments: Vec<String> = std::env::args().skip(1).collect();
+    let words: Vec<&str> = arguments.iter().map(String::as_str).collect();
+    if let ["wrong"] = words.as_slice() {
+        return all_wrong();
+    }
+    if let ["wrong", number] = words.as_slice() {
+        let Some((_, exports)) = number.parse().ok().and_then(|at: usize| wrong::ALL.get(at)) else { return usage() };
+        return fuzz(exports, 1, WRONG_CALLS, SECONDS, A_WRONG_CALL);
+    }
+    let numbers: Option<Vec<u64>> = words.iter().map(|w| w.parse().ok()).collect();
+    match numbers.as_deref() {
+        Some([]) => fuzz(&LIBRARY, 1, CALLS, SECONDS, A_CALL),
+        Some([seed]) => fuzz(&LIBRARY, *seed, CALLS, SECONDS, A_CALL),
+        Some([seed, count]) => fuzz(&LIBRARY, *seed, *count, SECONDS, A_CALL),
+        Some([seed, count, seconds]) => fuzz(&LIBRARY, *seed, *count, *seconds, A_CALL),
+        _ => usage(),
+    }
+}
+
+fn usage() -> ExitCode {
+    eprintln!("usage: fuzz [SEED [COUNT [SECONDS]]] | fuzz wrong [NUMBER below {}]", wrong::ALL.len());
+    ExitCode::FAILURE
+}
+
+/// Runs every wrong library in a process of its own; each must end with a violation.
+fn all_wrong() -> ExitCode {
+    let mut missed = 0;
+    for (number, (what, _)) in wrong::ALL.iter().enumerate() {
+        let program = std::env::current_exe().expect("this program has a path");
+        let run = Command::new(program).arg("wrong").arg(number.to_string()).output().expect("it runs again");
+        let told = String::from_utf8_lossy(&run.stderr);
+        match told.lines().find_map(|line| line.strip_prefix("violation: ")) {
+            Some(message) if run.status.code() == Some(1) => println!("caught: {}: {}", what, message),
+            _ => {
+                println!("not caught: {}", what);
+                missed += 1;
+            }
+        }
+    }
+    println!("{} wrong libraries, {} caught", wrong::ALL.len(), wrong::ALL.len() - missed);
+    if missed == 0 {
+        ExitCode::SUCCESS
+    } else {
+        ExitCode::FAILURE
+    }
+}
+
+fn fuzz(exports: &Exports, seed: u64, count: u64, seconds: u64, a_call: u32) -> ExitCode {
+    watch::install();
+    let mut tally = Tally::new();
+    let mut lender = Lender::new(*exports, a_call);
+    let tried = calls_at_random(&mut lender, seed, count, Duration::from_secs(seconds), &mut tally)
+        .and_then(|()| wide::check(exports, a_call));
+    match tried {
+        Err(message) => {
+            eprintln!("violation: {}", message);
+            ExitCode::FAILURE
+        }
+        Ok(wide) => {
+            println!("{} calls in order (seed {})", tally.values().sum::<u64>(), seed);
+            tally.iter().for_each(|(kind, times)| println!("{:>9}  {}", times, kind));
+            match wide {
+                Some(wide) => println!("{:>9}  with a buffer longer than 4294967296", wide),
+                None => println!("no buffer longer than 4294967296 was lent: the system has not so many addresses"),
+            }
+            ExitCode::SUCCESS
+        }
+    }
+}
+
+fn calls_at_random(
+    lender: &mut Lender,
+    seed: u64,
+    count: u64,
+    time: Duration,
+    tally: &mut Tally,
+) -> Result<(), String> {
+    let start = Instant::now();
+    let mut random = Random::new(seed);
+    for _ in 0..count {
+        if start.elapsed() > time {
+            break;
+        }
+        let call = inputs::call(&mut random);
+        let answered = one(lender, &call, &mut random).map_err(|m| format!("{}\n  call: {}", m, call))?;
+        *tally.entry(kind(&call, &answered)).or_default() += 1;
+    }
+    Ok(())
+}
+
+/// The call with its buffers at either edge: both answers are allowed, and the same but for what the output
+/// held and still holds.
+fn one(lender: &mut Lender, call: &Call, random: &mut Random) -> Result<Answered, String> {
+    let line = call.to_string();
+    let mut answer = |edge| {
+        let a = lender.answer(call, &line, edge, random)?;
+        checks::check(call, &a).map(|()| a)
+    };
+    let (first, second) = (answer(Edge::End)?, answer(Edge::Start)?);
+    let written = checks::written(call, &first);
+    let seen = |a: &Answered| (a.code, a.index, a.numbers.clone(), a.output[..written.min(a.output.len())].to_vec());
+    if seen(&first) != seen(&second) {
+        return Err(format!("with other words in the buffers {:?}, not {:?}", seen(&second), seen(&first)));
+    }
+    Ok(first)
+}
+
+fn kind(call: &Call, a: &Answered) -> String {
+    let outcome = match (call.kind(), a.code) {
+        (_, 1..) => format!("refused {:>2}", a.code),
+        (Kind::Search, _) => format!("verdict {}, cause {}", a.numbers[0], a.numbers[8]),
+        (Kind::Full, _) => format!("verdict {}, causes {} and {}", a.numbers[0], a.numbers[9], a.numbers[18]),
+        (Kind::Referee, _) => format!("value {}", a.numbers[0]),
+        (Kind::Moves, _) if a.numbers[0] == 0 => "none".to_string(),
+        _ => "answered".to_string(),
+    };
+    format!("{:<7}  {}", call.kind().name(), outcome)
+}

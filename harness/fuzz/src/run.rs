@@ -1,0 +1,168 @@
+//! A call of an export with every buffer between guard pages.
+
+use crate::exports::Exports;
+use crate::filling::Filling;
+use crate::guarded::{Edge, Region};
+use crate::inputs::{LONGEST, MOST_NODES};
+use crate::watch;
+use calls::record::LENGTH;
+use calls::Call;
+use oracle::generate::Random;
+use uttt::ffi;
+
+pub const NODE_BYTES: usize = 20;
+const WORD_BYTES: usize = 4;
+
+/// What an export gave, and what stands in the output that was lent, if one was.
+#[derive(Clone, Debug, PartialEq)]
+pub struct Answered {
+    pub code: u32,
+    pub index: u64,
+    /// The other numbers of the answer, in their order.
+    pub numbers: Vec<u64>,
+    pub output: Vec<u8>,
+}
+
+pub struct Lender {
+    pub exports: Exports,
+    /// A call that takes longer has failed.
+    pub seconds: u32,
+    record: Region,
+    moves: Region,
+    output: Region,
+    pool: Region,
+}
+
+impl Lender {
+    pub fn new(exports: Exports, seconds: u32) -> Lender {
+        let region = |capacity| Region::new(capacity).expect("the system has addresses");
+        let pool = region(NODE_BYTES * MOST_NODES as usize + NODE_BYTES);
+        let [record, moves, output] = [(); 3].map(|()| region(2 * LONGEST));
+        Lender { exports, seconds, record, moves, output, pool }
+    }
+
+    /// Answers the call, or says what it did that it may not.
+    pub fn answer(&mut self, call: &Call, line: &str, edge: Edge, random: &mut Random) -> Result<Answered, String> {
+        let record = record_of(call);
+        self.record.lend_to_read(record, edge, Filling::any(random));
+        let answered = match call {
+            Call::Moves { output, .. } => self.moves(*output, line, edge, random),
+            Call::Replay { moves, output, .. } => {
+                self.moves.lend_to_read(moves, edge, Filling::any(random));
+                let answered = self.replay(moves.len(), *output, line, edge, random);
+                kept(&mut self.moves, moves, "list of moves")?;
+                answered
+            }
+            Call::Referee { rule, .. } => Ok(self.referee(*rule, line)),
+            Call::Search { pool, .. } | Call::Full { pool, .. } => self.search(call, *pool, line, edge, random),
+        }?;
+        kept(&mut self.record, record, "record")?;
+        Ok(answered)
+    }
+
+    fn moves(&mut self, length: usize, line: &str, edge: Edge, random: &mut Random) -> Result<Answered, String> {
+        self.output.lend(length, edge, Filling::any(random));
+        let (record, output, call) = (&mut self.record, self.output.pointer(), self.exports.moves);
+        let (from, size) = (record.pointer(), record.bytes().len());
+        // SAFETY: pointers and lengths belong together, and the buffers are apart.
+        let a = watch::during(line, self.seconds, || unsafe { call(from, size, output, length) });
+        let written = if a.code == 0 { (a.count as usize).min(length) } else { 0 };
+        self.output.unchanged(written)?;
+        Ok(Answered { code: a.code, index: a.index, numbers: vec![a.count], output: self.output.bytes().to_vec() })
+    }
+
+    fn replay(
+        &mut self,
+        moves: usize,
+        length: usize,
+        line: &str,
+        edge: Edge,
+        random: &mut Random,
+    ) -> Result<Answered, String> {
+        self.output.lend(length, edge, Filling::any(random));
+        let (record, output, call) = (&mut self.record, self.output.pointer(), self.exports.replay);
+        let (from, size, list) = (record.pointer(), record.bytes().len(), self.moves.pointer());
+        // SAFETY: pointers and lengths belong together, and the buffers are apart.
+        let a = watch::during(line, self.seconds, || unsafe { call(from, size, list, moves, output, length) });
+        self.output.unchanged(if a.code == 0 { LENGTH.min(length) } else { 0 })?;
+        Ok(Answered { code: a.code, index: a.index, numbers: vec![], output: self.output.bytes().to_vec() })
+    }
+
+    fn referee(&mut self, rule: u64, line: &str) -> Answered {
+        let (call, from, size) = (self.exports.referee, self.record.pointer(), self.record.bytes().len());
+        // SAFETY: pointer and length belong together.
+        let a = watch::during(line, self.seconds, || unsafe { call(from, size, rule) });
+        Answered { code: a.code, index: a.index, numbers: vec![a.value.into()], output: vec![] }
+    }
+
+    /// Search or full verdict, twice: the second time with what the first one left in the pool.
+    fn search(
+        &mut self,
+        call: &Call,
+        nodes: u64,
+        line: &str,
+        edge: Edge,
+        random: &mut Random,
+    ) -> Result<Answered, String> {
+        let capacity = NODE_BYTES * nodes as usize;
+        self.pool.lend(capacity + WORD_BYTES * random.index(5), edge, Filling::any(random));
+        let first = self.pool_call(call, line);
+        let written = if first.code == 0 { capacity } else { 0 };
+        self.pool.unchanged(written)?;
+        let again = self.pool_call(call, line);
+        self.pool.unchanged(written)?;
+        if first != again {
+            return Err(format!("with the first one's words in the pool {:?}, not {:?}", again, first));
+        }
+        Ok(first)
+    }
+
+    fn pool_call(&mut self, call: &Call, line: &str) -> Answered {
+        let (from, size) = (self.record.pointer(), self.record.bytes().len());
+        let (words, length) = (self.pool.pointer() as *mut u32, self.pool.bytes().len() / WORD_BYTES);
+        let (search, full) = (self.exports.search, self.exports.full);
+        // SAFETY: pointers and lengths belong together, and the buffers are apart.
+        watch::during(line, self.seconds, || match *call {
+            Call::Search { rule, limit, budget, interval, .. } => {
+                searched(unsafe { search(from, size, words, length, rule, limit, budget, interval) })
+            }
+            Call::Full { limit, budget, interval, .. } => {
+                judged(unsafe { full(from, size, words, length, limit, budget, interval) })
+            }
+            _ => unreachable!("no other call has a pool"),
+        })
+    }
+}
+
+pub fn searched(a: ffi::SearchAnswer) -> Answered {
+    Answered { code: a.code, index: a.index, numbers: fields(a.result).to_vec(), output: vec![] }
+}
+
+pub fn judged(a: ffi::FullAnswer) -> Answered {
+    let numbers = [vec![a.verdict.into()], fields(a.first).to_vec(), fields(a.second).to_vec()].concat();
+    Answered { code: a.code, index: a.index, numbers, output: vec![] }
+}
+
+fn fields(f: ffi::ResultFields) -> [u64; 9] {
+    let (verdict, proof, disproof, cause) = (f.verdict.into(), f.proof.into(), f.disproof.into(), f.cause.into());
+    [verdict, proof, disproof, f.allocated, f.freed, f.proved, f.disproved, f.expanded, cause]
+}
+
+fn record_of(call: &Call) -> &[u8] {
+    match call {
+        Call::Moves { record, .. }
+        | Call::Replay { record, .. }
+        | Call::Search { record, .. }
+        | Call::Full { record, .. }
+        | Call::Referee { record, .. } => record,
+    }
+}
+
+/// What was lent to be read is as it was, and so are the bytes around it.
+fn kept(region: &mut Region, bytes: &[u8], what: &str) -> Result<(), String> {
+    region.unchanged(bytes.len())?;
+    if region.bytes() != bytes {
+        return Err(format!("the {} was written", what));
+    }
+    Ok(())
+}

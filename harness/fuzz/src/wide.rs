@@ -1,0 +1,109 @@
+//! Buffers longer than 32 bits tell: a length cut to 32 bits would give another answer. Of such a buffer the
+//! first page can be written, the others only read.
+
+use crate::exports::Exports;
+use crate::guarded::Region;
+use crate::run::{judged, searched, Answered};
+use crate::watch;
+use calls::record::{Position, LENGTH};
+use calls::table::MOVES_ROOM;
+
+const OVER: usize = 1 << 32;
+const NODE_WORDS: usize = 5;
+/// The settings of the searches: rule 0, no limit, one expansion, interval 1.
+const RULE: u64 = 0;
+const LIMIT: u64 = u64::MAX;
+
+/// What is too long, what is due, and the answer.
+type Tried = (&'static str, (u32, u64), Answered);
+
+/// Tries all; gives how many there were, or none where the system has not so many addresses.
+pub fn check(exports: &Exports, seconds: u32) -> Result<Option<usize>, String> {
+    let (Some(mut long), Some(mut pool)) = (Region::new(OVER + LENGTH), Region::new(4 * NODE_WORDS * (OVER + 1)))
+    else {
+        return Ok(None);
+    };
+    let tried = watch::during("a buffer longer than 4294967296", seconds, || {
+        let parts =
+            [long_records(exports, &mut long)?, long_lists(exports, &mut long)?, long_pools(exports, &mut pool)?];
+        Ok::<Vec<Tried>, String>(parts.into_iter().flatten().collect())
+    })?;
+    match tried.iter().find(|(_, due, a)| (a.code, a.index) != *due) {
+        None => Ok(Some(tried.len())),
+        Some((what, due, a)) => Err(format!("{}: code {} and index {}, not {:?}", what, a.code, a.index, due)),
+    }
+}
+
+fn bare(code: u32, index: u64) -> Answered {
+    Answered { code, index, numbers: vec![], output: vec![] }
+}
+
+/// The empty board's record, and more bytes: refused by check 1, and nothing is written.
+fn long_records(exports: &Exports, long: &mut Region) -> Result<Vec<Tried>, String> {
+    let record = Position::start().write();
+    long.lend_long(OVER + LENGTH, &record);
+    let (at, length) = (long.pointer(), OVER + LENGTH);
+    let (mut out, mut pool) = ([0; MOVES_ROOM], [0; NODE_WORDS * 100]);
+    let (to, room, words, size) = (out.as_mut_ptr(), out.len(), pool.as_mut_ptr(), pool.len());
+    // SAFETY: pointers and lengths belong together, and the buffers are apart.
+    let tried = unsafe {
+        let moves = (exports.moves)(at, length, to, room);
+        let replay = (exports.replay)(at, length, at, 0, to, room);
+        let referee = (exports.referee)(at, length, RULE);
+        vec![
+            ("moves, record", (1, 0), bare(moves.code, moves.index)),
+            ("replay, record", (1, 0), bare(replay.code, replay.index)),
+            ("referee, record", (1, 0), bare(referee.code, referee.index)),
+            ("search, record", (1, 0), searched((exports.search)(at, length, words, size, RULE, LIMIT, 1, 1))),
+            ("full, record", (1, 0), judged((exports.full)(at, length, words, size, LIMIT, 1, 1))),
+        ]
+    };
+    long.unchanged(LENGTH)?;
+    if long.bytes()[..LENGTH] != record || out != [0; MOVES_ROOM] || pool != [0; NODE_WORDS * 100] {
+        return Err("a long record: something was written".to_string());
+    }
+    Ok(tried)
+}
+
+/// A list of 00 over and over, bad at index 1; and outputs that cut short would have no room.
+fn long_lists(exports: &Exports, long: &mut Region) -> Result<Vec<Tried>, String> {
+    let record = Position::start().write();
+    let (from, size, mut out) = (record.as_ptr(), record.len(), [0; LENGTH]);
+    long.lend_long(OVER + 1, &[]);
+    // SAFETY: pointers and lengths belong together, and the buffers are apart.
+    let list = unsafe { (exports.replay)(from, size, long.pointer(), OVER + 1, out.as_mut_ptr(), out.len()) };
+    long.unchanged(0)?;
+    long.lend_long(OVER + 1, &[]);
+    // SAFETY: as above.
+    let moves = unsafe { (exports.moves)(from, size, long.pointer(), OVER + 1) };
+    long.unchanged(MOVES_ROOM)?;
+    long.lend_long(OVER + 1, &[]);
+    // SAFETY: as above.
+    let replay = unsafe { (exports.replay)(from, size, from, 0, long.pointer(), OVER + 1) };
+    long.unchanged(LENGTH)?;
+    Ok(vec![
+        ("replay, moves", (15, 1), bare(list.code, list.index)),
+        ("moves, output", (0, 0), bare(moves.code, moves.index)),
+        ("replay, output", (0, 0), bare(replay.code, replay.index)),
+    ])
+}
+
+/// Pools that cut short would be of one node: refused by check 9, and nothing is written.
+fn long_pools(exports: &Exports, pool: &mut Region) -> Result<Vec<Tried>, String> {
+    let record = Position::start().write();
+    let (from, size) = (record.as_ptr(), record.len());
+    let mut tried = Vec::new();
+    // One is short if its words are cut to 32 bits, the other if its nodes are.
+    for length in [OVER + NODE_WORDS, NODE_WORDS * (OVER + 1)] {
+        pool.lend_long(4 * length, &[]);
+        let words = pool.pointer() as *mut u32;
+        // SAFETY: pointers and lengths belong together, and the buffers are apart.
+        let (search, full) = unsafe {
+            let search = (exports.search)(from, size, words, length, RULE, LIMIT, 1, 1);
+            (search, (exports.full)(from, size, words, length, LIMIT, 1, 1))
+        };
+        pool.unchanged(0)?;
+        tried.extend([("search, pool", (9, 0), searched(search)), ("full, pool", (9, 0), judged(full))]);
+    }
+    Ok(tried)
+}

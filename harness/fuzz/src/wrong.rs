@@ -1,0 +1,156 @@
+//! Libraries with one thing wrong, to see that each is noticed: the proved exports with something done before
+//! or after them. `fuzz wrong` runs every one in a process of its own.
+
+// What a macro below has nothing to do with is ().
+#![allow(clippy::no_effect)]
+
+use crate::exports::{Exports, LIBRARY};
+use uttt::ffi;
+
+pub const ALL: [(&str, Exports); 18] = [
+    ("moves reads a byte past the record", Exports { moves: moves_past, ..LIBRARY }),
+    ("moves reads a byte before the record", Exports { moves: moves_before, ..LIBRARY }),
+    ("moves counts one move more", Exports { moves: moves_more, ..LIBRARY }),
+    ("moves writes past its last move", Exports { moves: moves_beyond, ..LIBRARY }),
+    ("replay writes before it refuses", Exports { replay: replay_early, ..LIBRARY }),
+    ("replay writes a byte past the record", Exports { replay: replay_beyond, ..LIBRARY }),
+    ("replay gives an index past the moves", Exports { replay: replay_index, ..LIBRARY }),
+    ("replay writes into the moves", Exports { replay: replay_moves, ..LIBRARY }),
+    ("referee does not return", Exports { referee: referee_stays, ..LIBRARY }),
+    ("referee cuts the length to 32 bits", Exports { referee: referee_cut, ..LIBRARY }),
+    ("search lets the pool's first word in", Exports { search: search_reads, ..LIBRARY }),
+    ("search writes past the capacity", Exports { search: search_beyond, ..LIBRARY }),
+    ("search writes past the pool", Exports { search: search_past, ..LIBRARY }),
+    ("search says True too early", Exports { search: search_true, ..LIBRARY }),
+    ("search refuses with 7", Exports { search: search_seven, ..LIBRARY }),
+    ("search counts more than its budget", Exports { search: search_over, ..LIBRARY }),
+    ("full verdict writes before it refuses", Exports { full: full_early, ..LIBRARY }),
+    ("full verdict gives a field with a refusal", Exports { full: full_field, ..LIBRARY }),
+];
+
+/// A legal moves with something done before it and after it.
+macro_rules! moves {
+    ($name:ident, |$r:ident, $n:ident| $before:expr, |$a:ident, $out:ident, $room:ident| $after:expr) => {
+        unsafe extern "C" fn $name($r: *const u8, $n: usize, $out: *mut u8, $room: usize) -> ffi::MovesAnswer {
+            $before;
+            #[allow(unused_mut)]
+            let mut $a = ffi::uttt_legal_moves($r, $n, $out, $room);
+            $after;
+            $a
+        }
+    };
+}
+
+/// A replay with something done before it and after it.
+macro_rules! replay {
+    ($name:ident, |$m:ident, $k:ident| $before:expr, |$a:ident, $out:ident, $room:ident| $after:expr) => {
+        unsafe extern "C" fn $name(
+            r: *const u8,
+            n: usize,
+            $m: *const u8,
+            $k: usize,
+            $out: *mut u8,
+            $room: usize,
+        ) -> ffi::ReplayAnswer {
+            $before;
+            #[allow(unused_mut)]
+            let mut $a = ffi::uttt_replay(r, n, $m, $k, $out, $room);
+            $after;
+            $a
+        }
+    };
+}
+
+/// A search with something looked at before it and something done after it.
+macro_rules! search {
+    ($name:ident, |$seen:ident, $a:ident, $words:ident, $k:ident| $before:expr, $after:expr) => {
+        #[allow(clippy::too_many_arguments)]
+        unsafe extern "C" fn $name(
+            r: *const u8,
+            n: usize,
+            $words: *mut u32,
+            $k: usize,
+            rule: u64,
+            limit: u64,
+            budget: u64,
+            interval: u64,
+        ) -> ffi::SearchAnswer {
+            #[allow(unused_variables, clippy::let_unit_value)]
+            let $seen = $before;
+            #[allow(unused_mut)]
+            let mut $a = ffi::uttt_search(r, n, $words, $k, rule, limit, budget, interval);
+            $after;
+            $a
+        }
+    };
+}
+
+/// A full verdict with something done after it.
+macro_rules! full {
+    ($name:ident, |$a:ident, $words:ident| $after:expr) => {
+        unsafe extern "C" fn $name(
+            r: *const u8,
+            n: usize,
+            $words: *mut u32,
+            k: usize,
+            limit: u64,
+            budget: u64,
+            interval: u64,
+        ) -> ffi::FullAnswer {
+            #[allow(unused_mut)]
+            let mut $a = ffi::uttt_full_verdict(r, n, $words, k, limit, budget, interval);
+            $after;
+            $a
+        }
+    };
+}
+
+/// Does it if the condition holds.
+macro_rules! when {
+    ($holds:expr, $done:expr) => {
+        if $holds {
+            $done
+        }
+    };
+}
+
+moves!(moves_past, |r, n| r.wrapping_add(n).read_volatile(), |a, out, room| ());
+moves!(moves_before, |r, n| r.wrapping_sub(1).read_volatile(), |a, out, room| ());
+moves!(moves_more, |r, n| (), |a, out, room| when!(a.code == 0, a.count += 1));
+moves!(moves_beyond, |r, n| (), |a, out, room| when!(
+    a.code == 0 && (a.count as usize) < room,
+    *out.add(a.count as usize) ^= 1
+));
+
+replay!(replay_early, |m, k| (), |a, out, room| when!(a.code > 7, *out ^= 1));
+replay!(replay_beyond, |m, k| (), |a, out, room| when!(a.code == 0 && room > 21, *out.add(21) ^= 1));
+replay!(replay_index, |m, k| (), |a, out, room| when!(a.code > 10, a.index = k as u64));
+replay!(replay_moves, |m, k| when!(k > 0, m.cast_mut().write_volatile(m.read_volatile())), |a, out, room| ());
+
+search!(
+    search_reads,
+    |seen, a, words, k| if k > 0 { *words % 2 } else { 0 },
+    when!(a.code == 0, a.result.allocated += u64::from(seen))
+);
+search!(search_beyond, |seen, a, words, k| (), when!(a.code == 0 && !k.is_multiple_of(5), *words.add(k - 1) ^= 1));
+search!(search_past, |seen, a, words, k| (), when!(a.code == 0, *words.add(k) ^= 1));
+search!(search_true, |seen, a, words, k| (), when!(a.result.cause > 0, a.result.verdict = 1));
+search!(search_seven, |seen, a, words, k| (), when!(a.code == 8, a.code = 7));
+search!(search_over, |seen, a, words, k| (), when!(a.result.cause == 1, a.result.expanded += 1));
+
+full!(full_early, |a, words| when!(a.code == 10, *words ^= 1));
+full!(full_field, |a, words| when!(a.code > 0, a.second.cause = 1));
+
+unsafe extern "C" fn referee_stays(r: *const u8, n: usize, rule: u64) -> ffi::RefereeAnswer {
+    let a = ffi::uttt_referee(r, n, rule);
+    if a.value == 1 {
+        loop {
+            std::hint::spin_loop();
+        }
+    }
+    a
+}
+
+unsafe extern "C" fn referee_cut(r: *const u8, n: usize, rule: u64) -> ffi::RefereeAnswer {
+    ffi::uttt_referee(r, n as u32 as usize, rule)
+}
