@@ -18,7 +18,8 @@
  * at once if no buffer that one of them writes is used by another.
  *
  * Time and stack. No call can be interrupted; the budget bounds a search, and the referee takes small endings only.
- * Where it was measured, each call used less than 8 KiB of stack; pool and budget make no difference to that.
+ * Where it was measured, each call used less than 12 KiB of stack, some 2 KiB of which the dynamic linker took to look
+ * memset up at the first search; pool and budget make no difference to that.
  *
  * Proofs. docs/PROMISES.md says what is proved of each call, for every record, move list, pool and setting. Of a C
  * caller the proofs assume that every pointer is valid for its length and aligned, and that no buffer that is written
