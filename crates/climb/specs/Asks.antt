@@ -5,7 +5,7 @@ use mathlib.Core.Bool.{Bool, true, false, cond}
 use Prim.Native.Nat.{ℕ, suc, _+_, _≤_, _<_, min}
 use lib.Dec.{eqb}
 use lib.ListN.{length, getD}
-use Rattle.rules.specs.Rules.{Player, Position, count}
+use Rattle.rules.specs.Rules.{Player, Position}
 use Rattle.machine.specs.Game.{Game, sequences}
 use Rattle.machine.specs.Tree.{Node, u32-max, Children, child, leastDelta, sumPhi, append}
 use Rattle.machine.specs.Machine.{Counts, Ancestor, State, state, store, climb}
@@ -85,7 +85,6 @@ pub record Climbable (w path : List ℕ) (x : Prover) (phi delta : ℕ) : Type 0
   pub delta-is : delta ≡ min (sumPhi (at .below)) u32-max
   pub climbing : Climbing (game rule side) start (at .above) (at .node) (at .below)
   pub counts-fit : CountsFit (sequences (game rule side) start) (at .counts) (sizesOf (game rule side) at)
-  pub few : count 0 (start .cells) ≤ 81
 
 -- Where the machine's step 5 ends
 pub record Climbed (w path : List ℕ) (x : Prover) (phi delta : ℕ) (g : Climbable w path x phi delta) (v : List ℕ) (r : Prover) : Type 0 where

@@ -14,7 +14,6 @@ use Rattle.plain.specs.Laws.{lawful, left-most}
 use Rattle.words.specs.Words.{capacity, Beyond, beyond-trans}
 use Rattle.words.specs.Freeing.{plies}
 use Rattle.prover.specs.declared.Prover.{Prover}
-use Rattle.prover.specs.Stands.{here}
 use Rattle.pn.specs.Ticks.{tick-start}
 use Rattle.pn.specs.Going.{Going, Ranges, machineSettings, resultOf}
 use Rattle.pn.specs.Beginning.{Startable, Begun}

@@ -104,5 +104,4 @@ module _ (p : Position) (s : Settings) (w path ps : List ℕ) (x : Running) (g :
           delta-is = h .delta-is;
           climbing = expand-ok G L p t (f .rest) (f .shut);
           counts-fit = expand-counts G L p t (f .rest) (f .shut) (sequences G p) (leaf-ok p s w path ps x g ranges going unsolved more .counts-fit);
-          few = g .few;
         }

@@ -56,7 +56,7 @@ rangeRefusal n rule L = cond (ltb n poolLeast) 8 (cond (ltb poolMost n) 9 (cond 
 unfoldable pub searchRefusal : (bytes : List ℕ) (words rule : ℕ) → Limits → ℕ
 searchRefusal bytes words rule L = cond (not (eqb (refusal bytes) 0)) (refusal bytes) (rangeRefusal (nodes words) rule L)
 
--- A search is refused, or answered with the plain machine's result.
+-- A search is refused, or answered with the plain machine's result, which may be Unknown.
 pub data Searched : Type 0 where
   Refused : ℕ → Searched
   Answered : Result → Searched

@@ -1,9 +1,8 @@
 //! One search on either side.
 
 use crate::searches::{Search, INTERVAL, LIMIT, POOL_NODES, POOL_WORDS, RULE};
-use calls::line::Verdict;
 use calls::Fields;
-use uttt::ffi;
+use uttt::{ffi, ours};
 
 /// The original, which sets up its slabs itself.
 pub fn original(search: &Search) -> Fields {
@@ -27,29 +26,10 @@ pub fn ours(search: &Search, pool: &mut [u32]) -> Fields {
         )
     };
     assert_eq!(answer.code, 0, "{} was refused", search.name);
-    fields(answer.result)
+    ours::fields(answer.result).expect("a verdict has a number")
 }
 
 /// The library with a pool made for this search and given back after it.
 pub fn ours_fresh(search: &Search) -> Fields {
     ours(search, &mut vec![0; POOL_WORDS])
-}
-
-fn fields(result: ffi::ResultFields) -> Fields {
-    Fields {
-        verdict: match result.verdict {
-            0 => Verdict::Unknown,
-            1 => Verdict::True,
-            2 => Verdict::False,
-            other => panic!("answered with verdict {}", other),
-        },
-        proof: result.proof.into(),
-        disproof: result.disproof.into(),
-        allocated: result.allocated,
-        freed: result.freed,
-        proved: result.proved,
-        disproved: result.disproved,
-        expanded: result.expanded,
-        cause: result.cause.into(),
-    }
 }

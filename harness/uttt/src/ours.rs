@@ -128,7 +128,8 @@ fn full(record: &[u8], nodes: u64, limits: [u64; 3], pattern: u8) -> Result<Answ
     Ok(Answer::Full(verdict, fields(answered.first)?, fields(answered.second)?))
 }
 
-fn fields(result: ffi::ResultFields) -> Result<Fields, String> {
+/// The nine fields, or the number that is no verdict's.
+pub fn fields(result: ffi::ResultFields) -> Result<Fields, String> {
     Ok(Fields {
         verdict: match result.verdict {
             0 => Verdict::Unknown,
