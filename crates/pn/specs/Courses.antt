@@ -7,6 +7,7 @@ use Rattle.machine.specs.Game.{Game}
 use Rattle.machine.specs.Tree.{solved}
 use Rattle.machine.specs.Machine.{State, Settings, Policy, root, toLeaf, short, round, overLimit, result, run, ends}
 use Rattle.machine.specs.Runs.{run-solved, run-short, run-over, run-next, result-solved}
+use Rattle.machine.specs.Resume.{MoreBudget, resume}
 
 module _ (G : Game) (P : Policy G) (S : Settings) (p : G .Pos) where
   -- from state s on, the run ends as the whole search does
@@ -17,6 +18,12 @@ module _ (G : Game) (P : Policy G) (S : Settings) (p : G .Pos) where
   abbrev pub Ends : State (G .Pos) → ℕ → Type 0
   Ends s c = result G (ends G P S p) ≡ result G (s, c)
 
+  -- it has ended in state s itself, with the budget spent and the root not solved: from here it can go on
+  pub record Spent (s : State (G .Pos)) : Type 0 where
+    pub all : s .counts .expanded ≡ S .budget
+    pub here : ends G P S p ≡ (s, 1)
+    pub unsolved : solved (root s) ≡ false
+
   module _ (s : State (G .Pos)) (l : Leads s) where
     pub ends-solved : solved (root s) ≡ true → Ends s 0
     ends-solved e = go (S .budget - s .counts .expanded) (l .1)
@@ -25,11 +32,11 @@ module _ (G : Game) (P : Policy G) (S : Settings) (p : G .Pos) where
         go zero q = unfold run in (ap (result G) (sym q) ∙ result-solved G s 1 0 e)
         go (suc k) q = ap (result G) (sym q ∙ run-solved G P S k s e)
 
-    pub ends-spent : s .counts .expanded ≡ S .budget → Ends s 1
-    ends-spent e = go (S .budget - s .counts .expanded) (omega arith) (l .1)
+    pub ends-spent : s .counts .expanded ≡ S .budget → solved (root s) ≡ false → Spent s
+    ends-spent e u = record { all = e; here = go (S .budget - s .counts .expanded) (omega arith) (l .1); unsolved = u }
       where
-        go : (k : ℕ) → k ≡ 0 → run G P S k s ≡ ends G P S p → Ends s 1
-        go zero z q = unfold run in (ap (result G) (sym q))
+        go : (k : ℕ) → k ≡ 0 → run G P S k s ≡ ends G P S p → ends G P S p ≡ (s, 1)
+        go zero z q = unfold run in (sym q)
         go (suc k) z q = absurd (omega arith)
 
     module _ (more : s .counts .expanded ≡ S .budget → ⊥) (unsolved : solved (root s) ≡ false) where
@@ -53,3 +60,12 @@ module _ (G : Game) (P : Policy G) (S : Settings) (p : G .Pos) where
         pub leads-on : round G P s .counts .expanded ≡ suc (s .counts .expanded) → overLimit S (round G P s) ≡ false → Leads (round G P s)
         unfolding left
         leads-on e o = (omega (arith, l .0, more), ap (λ k. run G P S (S .budget - k) (round G P s)) e ∙ sym (run-next G P S left s unsolved enough o) ∙ here)
+
+-- a spent search leads on with more budget
+pub leads-again : (G : Game) (P : Policy G) (S T : Settings) (p : G .Pos) (s : State (G .Pos)) → MoreBudget S T → Spent G P S p s → Leads G P T p s
+leads-again G P S T p s m h = (
+  omega (arith, h .all, m .budget),
+  ap (λ k. run G P T (T .budget - k) s) (h .all)
+      ∙ ap (λ (e : State (G .Pos) × ℕ). run G P T (T .budget - S .budget) (e .0)) (sym (h .here))
+      ∙ resume G P S T m p (ap (λ (e : State (G .Pos) × ℕ). e .1) (h .here)),
+)

@@ -1,6 +1,6 @@
 -- A search of a position between two rounds, as its code keeps it, and its result. Rests on prover's Stands, Courses, Ticks and Root.
-use mathlib.Core.Path.{_≡_, ap, sym, _∙_}
-use mathlib.Core.Bool.{true, false, cond, _||_}
+use mathlib.Core.Path.{_≡_, refl, ap, sym, _∙_}
+use mathlib.Core.Bool.{true, false, true≢false, cond, _||_}
 use mathlib.Core.List.{List}
 use Prim.Native.Nat.{ℕ, _+_, _*_, _≤_, _<_}
 use native.Mathlib.Omega.{arith}
@@ -19,7 +19,8 @@ use Rattle.words.specs.Words.{PHI, DELTA, word, capacity}
 use Rattle.words.specs.Trees.{Held}
 use Rattle.prover.specs.Stands.{Stands}
 use Rattle.pn.specs.Ticks.{Ticks}
-use Rattle.pn.specs.Courses.{Leads, Ends}
+use Rattle.machine.specs.Resume.{MoreBudget, cause-one}
+use Rattle.pn.specs.Courses.{Leads, Ends, Spent, leads-again}
 use Rattle.pn.specs.Root.{root-place, root-held}
 use Rattle.pn.specs.declared.Settings.{Settings}
 use Rattle.pn.specs.declared.Running.{Running}
@@ -59,7 +60,7 @@ pub record Ranges (w : List ℕ) (s : Settings) : Type 0 where
   pub budget-most : s .budget ≤ 1000000000000
   pub rule-few : s .rule < 3
 
--- a search of p stands there: it goes on as the machine's does, or has ended
+-- a search of p stands there: it goes on as the machine's does, or has ended; with its budget spent it stands where the machine's ended, and its counter goes on from there
 pub record Going (p : Position) (s : Settings) (w path ps : List ℕ) (x : Running) : Type 0 where
   pub at : machine.State Position
   pub stands : Stands (s .rule) (p .side) w path ps (x .prover) at
@@ -69,6 +70,15 @@ pub record Going (p : Position) (s : Settings) (w path ps : List ℕ) (x : Runni
   pub onward : x .stop ≡ false
       → Leads (gameOf (s .rule) p) (machine.standard (gameOf (s .rule) p)) (machineSettings w s) p at × Ticks (s .interval) (at .counts .expanded) (x .tick)
   pub ended : x .stop ≡ true → Ends (gameOf (s .rule) p) (machine.standard (gameOf (s .rule) p)) (machineSettings w s) p at (x .cause)
+  pub spent : x .stop ≡ true → x .cause ≡ 1
+      → Spent (gameOf (s .rule) p) (machine.standard (gameOf (s .rule) p)) (machineSettings w s) p at × Ticks (s .interval) (at .counts .expanded) (x .tick)
+
+-- the same settings with another budget, and a search that takes up again
+abbrev pub withBudget : Settings → ℕ → Settings
+withBudget s b = record { rule = s .rule; limit = s .limit; budget = b; interval = s .interval }
+
+abbrev pub again : Running → Running
+again x = record { prover = x .prover; tick = x .tick; stop = false; cause = 0 }
 
 module _ (p : Position) (s : Settings) (w path ps : List ℕ) (x : Running) (g : Going p s w path ps x) where
   -- the root stands at place 0 of the path
@@ -94,6 +104,31 @@ module _ (p : Position) (s : Settings) (w path ps : List ℕ) (x : Running) (g :
   pub solved-is : solved (machine.root (g .at)) ≡ (eqb (word w (getD path 0 0) PHI) 0 || eqb (word w (getD path 0 0) DELTA) 0)
   unfolding solved
   solved-is = rw (going-root .phi-is, going-root .delta-is)
+
+  -- spent, it goes on with more budget
+  pub goes-again : x .stop ≡ true → x .cause ≡ 1 → (b : ℕ) → s .budget ≤ b → Going p (withBudget s b) w path ps (again x)
+  goes-again e c b l =
+      let h = g .spent e c in
+      let m : MoreBudget (machineSettings w s) (machineSettings w (withBudget s b)) = record { pool = refl; limit = refl; interval = refl; budget = l } in
+      record {
+        at = g .at;
+        stands = g .stands;
+        ok = g .ok;
+        few = g .few;
+        allocated-most = g .allocated-most;
+        onward = λ q. (leads-again (gameOf (s .rule) p) (machine.standard (gameOf (s .rule) p)) (machineSettings w s) (machineSettings w (withBudget s b)) p (g .at) m (h .0), h .1);
+        ended = λ q. absurd (true≢false (sym q));
+        spent = λ q. absurd (true≢false (sym q));
+      }
+
+  -- the plain machine's result has cause 1 exactly where the search stopped with it
+  pub cause-spent : x .stop ≡ true → searchOf (s .rule) (machineSettings w s) p .cause ≡ 1 → x .cause ≡ 1
+  unfolding searchOf machine.search
+  cause-spent e c = cause-one (gameOf (s .rule) p) (g .at, x .cause) (sym (ap (λ (r : machine.Result). r .cause) (g .ended e)) ∙ c) .0
+
+  pub spent-cause : x .stop ≡ true → x .cause ≡ 1 → searchOf (s .rule) (machineSettings w s) p .cause ≡ 1
+  unfolding searchOf machine.search machine.result
+  spent-cause e c = ap (λ (r : machine.Result). r .cause) (g .ended e) ∙ ap (λ b. cond b 0 (x .cause)) (g .spent e c .0 .unsolved) ∙ c
 
   -- the result, from the root's words and the counts
   pub going-result : x .stop ≡ true → (r : SearchResult)

@@ -25,7 +25,7 @@ use Rattle.words.specs.Words.{capacity}
 use Rattle.prover.specs.declared.Prover.{Prover}
 use Rattle.prover.specs.Stands.{Stands, Searching}
 use Rattle.pn.specs.Ticks.{Ticks, tick-some, tick-due, tick-again, tick-not-due, tick-next}
-use Rattle.pn.specs.Courses.{Leads, Ends, ends-solved, ends-spent, ends-short, ends-over, leads-on}
+use Rattle.pn.specs.Courses.{Leads, Ends, Spent, ends-solved, ends-spent, ends-short, ends-over, leads-on}
 use Rattle.pn.specs.Going.{Going, Ranges, machineSettings}
 use Rattle.pn.specs.Ticked.{Ticked}
 use Rattle.pn.specs.declared.Settings.{Settings}
@@ -82,8 +82,10 @@ module _ (p : Position) (s : Settings) (w w′ path′ ps′ : List ℕ) (long :
   ok′ : StateOk (gameOf (s .rule) p) p (capacity w′) t
   ok′ = subst (λ n. StateOk (gameOf (s .rule) p) p n t) (sym same) ok
 
-  pub goes-no-further : y .stop ≡ true → Ends (gameOf (s .rule) p) (machine.standard (gameOf (s .rule) p)) (machineSettings w s) p t (y .cause) → Going p s w′ path′ ps′ y
-  goes-no-further e ends = record {
+  pub goes-no-further : y .stop ≡ true → Ends (gameOf (s .rule) p) (machine.standard (gameOf (s .rule) p)) (machineSettings w s) p t (y .cause)
+      → (y .cause ≡ 1 → Spent (gameOf (s .rule) p) (machine.standard (gameOf (s .rule) p)) (machineSettings w s) p t × Ticks (s .interval) (t .counts .expanded) (y .tick))
+      → Going p s w′ path′ ps′ y
+  goes-no-further e ends spent = record {
     at = t;
     stands = stands;
     ok = ok′;
@@ -91,6 +93,7 @@ module _ (p : Position) (s : Settings) (w w′ path′ ps′ : List ℕ) (long :
     allocated-most = most;
     onward = λ q. absurd (true≢false (sym e ∙ q));
     ended = λ q. subst (λ n. Ends (gameOf (s .rule) p) (machine.standard (gameOf (s .rule) p)) (withPool n s) p t (y .cause)) (sym same) ends;
+    spent = λ q c. (subst (λ n. Spent (gameOf (s .rule) p) (machine.standard (gameOf (s .rule) p)) (withPool n s) p t) (sym same) (spent c .0), spent c .1);
   }
 
   pub goes-on : y .stop ≡ false → Leads (gameOf (s .rule) p) (machine.standard (gameOf (s .rule) p)) (machineSettings w s) p t
@@ -103,6 +106,7 @@ module _ (p : Position) (s : Settings) (w w′ path′ ps′ : List ℕ) (long :
     allocated-most = most;
     onward = λ q. (subst (λ n. Leads (gameOf (s .rule) p) (machine.standard (gameOf (s .rule) p)) (withPool n s) p t) (sym same) leads, ticks);
     ended = λ q. absurd (true≢false (sym q ∙ e));
+    spent = λ q. absurd (true≢false (sym q ∙ e));
   }
 
 module _ (p : Position) (s : Settings) (w path ps : List ℕ) (x : Running) (g : Going p s w path ps x) (ranges : Ranges w s) (going : x .stop ≡ false) where
@@ -120,12 +124,14 @@ module _ (p : Position) (s : Settings) (w path ps : List ℕ) (x : Running) (g :
   pub stop-solved : solved (machine.root (g .at)) ≡ true → (y : Running) → y .prover ≡ x .prover → y .stop ≡ true → y .cause ≡ 0 → Going p s w path ps y
   stop-solved e y ey es ec =
       goes-no-further p s w w path ps refl (g .few) y (g .at) (subst (λ z. Stands (s .rule) (p .side) w path ps z (g .at)) (sym ey) (g .stands)) (g .ok) (g .allocated-most) es
-      (rw ec (ends-solved (gameOf (s .rule) p) (machine.standard (gameOf (s .rule) p)) (machineSettings w s) p (g .at) leads e))
+      (rw ec (ends-solved (gameOf (s .rule) p) (machine.standard (gameOf (s .rule) p)) (machineSettings w s) p (g .at) leads e)) (λ c. absurd (omega arith))
 
-  pub stop-spent : x .prover .expanded ≡ s .budget → (y : Running) → y .prover ≡ x .prover → y .stop ≡ true → y .cause ≡ 1 → Going p s w path ps y
-  stop-spent e y ey es ec =
+  pub stop-spent : x .prover .expanded ≡ s .budget → solved (machine.root (g .at)) ≡ false → (y : Running) → y .prover ≡ x .prover → y .tick ≡ x .tick → y .stop ≡ true → y .cause ≡ 1
+      → Going p s w path ps y
+  stop-spent e u y ey et es ec =
+      let h = ends-spent (gameOf (s .rule) p) (machine.standard (gameOf (s .rule) p)) (machineSettings w s) p (g .at) leads (sym (g .stands .expanded-is) ∙ e) u in
       goes-no-further p s w w path ps refl (g .few) y (g .at) (subst (λ z. Stands (s .rule) (p .side) w path ps z (g .at)) (sym ey) (g .stands)) (g .ok) (g .allocated-most) es
-      (rw ec (ends-spent (gameOf (s .rule) p) (machine.standard (gameOf (s .rule) p)) (machineSettings w s) p (g .at) leads (sym (g .stands .expanded-is) ∙ e)))
+      (rw ec (ap (machine.result (gameOf (s .rule) p)) (h .here))) (λ c. (h, subst (λ k. Ticks (s .interval) (g .at .counts .expanded) k) (sym et) ticks))
 
   module _ (unsolved : solved (machine.root (g .at)) ≡ false) (more : x .prover .expanded ≡ s .budget → ⊥) where
     more′ : g .at .counts .expanded ≡ s .budget → ⊥
@@ -154,7 +160,7 @@ module _ (p : Position) (s : Settings) (w path ps : List ℕ) (x : Running) (g :
         → y .stop ≡ true → y .cause ≡ 2 → Going p s w path′ ps′ y
     stop-short path′ ps′ y st t es ec =
         goes-no-further p s w w path′ ps′ refl (g .few) y _ st leaf-ok (rw (leaf .counts-same) (g .allocated-most)) es
-        (rw ec (ends-short (gameOf (s .rule) p) (machine.standard (gameOf (s .rule) p)) (machineSettings w s) p (g .at) leads more′ unsolved t))
+        (rw ec (ends-short (gameOf (s .rule) p) (machine.standard (gameOf (s .rule) p)) (machineSettings w s) p (g .at) leads more′ unsolved t)) (λ c. absurd (omega arith))
 
     module _ (enough : machine.short (gameOf (s .rule) p) (machine.standard (gameOf (s .rule) p)) (machineSettings w s)
         (machine.toLeaf (gameOf (s .rule) p) (machine.standard (gameOf (s .rule) p)) (g .at)) ≡ false) where
@@ -229,6 +235,7 @@ module _ (p : Position) (s : Settings) (w path ps : List ℕ) (x : Running) (g :
             (rw (ticked .over e l .1)
             (ends-over (gameOf (s .rule) p) (machine.standard (gameOf (s .rule) p)) (machineSettings w s) p (g .at) leads more′ unsolved enough
             (rw (due true (tick-due (s .interval) (g .at .counts .expanded) (x .tick) (ranges .interval-some) ticks e), live-is, lt-ltb (s .limit) (next .pool .allocated - next .pool .freed) l))))
+            (λ c. absurd (omega (arith, ticked .over e l .1)))
 
         pub goes-after : Going p s w′ path′ ps′ y
         goes-after = go (ℕ-discrete (x .tick) 1) (decLt (s .limit) (next .pool .allocated - next .pool .freed))

@@ -32,7 +32,7 @@ pub record Searched (p : Position) (s : Settings) (w v : List ℕ) (r : SearchRe
   pub result-is : resultOf r ≡ searchOf (s .rule) (machineSettings w s) p
   pub past : Beyond w v
 
--- the loop began with words w: the search of p stands there now, and no word past the capacity was changed
+-- the run began with words w: the search of p stands there now, and no word past the capacity was changed
 pub record Looping (p : Position) (s : Settings) (w v path ps : List ℕ) (x : Running) : Type 0 where
   pub going : Going p s v path ps x
   pub past : Beyond w v
@@ -71,6 +71,7 @@ to-loop p s w v path ps y root a r er b = (
       allocated-most = omega arith;
       onward = λ q. ((omega arith, ap (λ k. machine.run (gameOf (s .rule) p) (machine.standard (gameOf (s .rule) p)) (machineSettings v s) k (machine.start (gameOf (s .rule) p) p)) (whole (s .budget))), tick-start (s .interval));
       ended = λ q. absurd (true≢false (sym q));
+      spent = λ q. absurd (true≢false (sym q));
     };
     ranges = ranges-long w v s (b .long) r;
     on = refl;
@@ -106,14 +107,14 @@ module _ {w path₀ ps₀ : List ℕ} {x₀ : Running} {s : Settings} {root : �
     }
 
 -- at the end, with the pool as it was lent
-pub loop-done : (p : Position) (s : Settings) (w v u path₀ ps₀ path ps todo : List ℕ) (y : Prover) (x : Running) (root : ℕ) (r : SearchResult)
-    → Accepted p → Ranges w s → root ≡ sideBit (p .side) → Begun (s .rule) p w v path₀ ps₀ y
-    → Loop v path₀ ps₀ (record { prover = y; tick = s .interval; stop = false; cause = 0 }) s root u path ps todo x
+pub search-done : (p : Position) (s : Settings) (w v u path₀ ps₀ path ps : List ℕ) (y : Prover) (x : Running) (root : ℕ) (r : SearchResult)
+    → Accepted p → Ranges w s → root ≡ sideBit (p .side) → Begun (s .rule) p w v path₀ ps₀ y → length u ≡ length v
+    → ((g : Steppable v path₀ ps₀ (record { prover = y; tick = s .interval; stop = false; cause = 0 }) s root) → Looping (g .start) s v u path ps x)
     → ((q : Position) (ps′ : List ℕ) → Going q s u path ps′ x → resultOf r ≡ searchOf (s .rule) (machineSettings u s) q) → Searched p s w u r
-loop-done p s w v u path₀ ps₀ path ps todo y x root r a ranges er b l result =
+search-done p s w v u path₀ ps₀ path ps y x root r a ranges er b long each result =
     let k = to-loop p s w v path₀ ps₀ y root a ranges er b in
-    let here : Looping p s v u path ps x = subst (λ q. Looping q s v u path ps x) (k .1) (l .each (k .0)) in
+    let here : Looping p s v u path ps x = subst (λ q. Looping q s v u path ps x) (k .1) (each (k .0)) in
     record {
-      result-is = result p ps (here .going) ∙ ap (λ n. searchOf (s .rule) (record { pool = n / 5; limit = s .limit; budget = s .budget; interval = s .interval }) p) (l .long ∙ b .long);
+      result-is = result p ps (here .going) ∙ ap (λ n. searchOf (s .rule) (record { pool = n / 5; limit = s .limit; budget = s .budget; interval = s .interval }) p) (long ∙ b .long);
       past = beyond-trans w v u (b .long) (b .past) (here .past);
     }

@@ -75,9 +75,10 @@ module _ {w path ps : List ℕ} {x : Running} {s : Settings} {root : ℕ} (g : S
     less = less-stopped x r s (g .on) es;
   }
 
-  pub stepped-spent : x .prover .expanded ≡ s .budget → (r : Running) → r .prover ≡ x .prover → r .stop ≡ true → r .cause ≡ 1 → Stepped (g .start) s x w w path ps r
-  stepped-spent e r ep es ec = record {
-    going = stop-spent (g .start) s w path ps x (g .going) (g .ranges) (g .on) e r ep es ec;
+  pub stepped-spent : x .prover .expanded ≡ s .budget → solved (machine.root (g .going .at)) ≡ false
+      → (r : Running) → r .prover ≡ x .prover → r .tick ≡ x .tick → r .stop ≡ true → r .cause ≡ 1 → Stepped (g .start) s x w w path ps r
+  stepped-spent e u r ep et es ec = record {
+    going = stop-spent (g .start) s w path ps x (g .going) (g .ranges) (g .on) e u r ep et es ec;
     past = λ j l. refl;
     less = less-stopped x r s (g .on) es;
   }

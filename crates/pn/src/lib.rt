@@ -19,7 +19,7 @@ ghost use Rattle.pn.specs.Beginning.{Startable, Begun};
 ghost use Rattle.pn.specs.Ticked.{Ticked};
 ghost use Rattle.pn.specs.Rounding.{AtLeaf, Short};
 ghost use Rattle.pn.specs.Stepping.{Steppable, Unsolved, Stepped};
-ghost use Rattle.pn.specs.Searches.{Searchable, Searched};
+ghost use Rattle.pn.specs.Searches.{Searchable, Searched, Looping};
 use game::Game;
 use game::Move;
 use node_pool::NO_NODE;
@@ -64,7 +64,7 @@ pub struct SearchResult {
 }
 
 // The root, evaluated, alone in the pool.
-fn begin(
+pub fn begin(
     table: &[u8; 512],
     words: &mut [u32],
     path: &mut [u32; PLIES],
@@ -155,7 +155,7 @@ fn cause_of(proof: u32, disproof: u32, cause: u8) -> u8
 }
 
 // The result of a search that has stopped.
-fn finish(words: &[u32], path: &[u32; PLIES], s: Settings, x: Running) -> SearchResult
+pub fn finish(words: &[u32], path: &[u32; PLIES], s: Settings, x: Running) -> SearchResult
     requires { ⌜ (length (now path) ≡ 82) × ((p : Position) × (ps : List ℕ) × Going p s (now words) (now path) ps x) × (x .stop ≡ true) ⌝ }
     ensures { λ r. ⌜ ((p : Position) (ps : List ℕ) → Going p s (now (words .entry)) (now (path .entry)) ps x → resultOf r ≡ searchOf (s .rule) (machineSettings (now (words .entry)) s) p) ⌝ }
 {
@@ -254,12 +254,35 @@ fn step(
     if prover.expanded == s.budget {
         return Running {
             prover,
-            tick: 0,
+            tick: x.tick,
             stop: true,
             cause: 1,
         };
     }
     round(table, words, path, positions, todo, x, s, root)
+}
+
+// A search that goes on, until it stops. Path, positions and the places for nodes that wait are lent, so that it can be taken up again.
+pub fn run(
+    table: &[u8; 512],
+    words: &mut [u32],
+    path: &mut [u32; PLIES],
+    positions: &mut [u16; POSITIONS],
+    todo: &mut [u32; PLIES],
+    x: Running,
+    s: Settings,
+    root: usize,
+) -> Running
+    requires room { ⌜ length (now todo) ≡ plies ⌝ }
+    requires { ⌜ (now table ≡ lineTable) × Steppable (now words) (now path) (now positions) x s root ⌝ }
+    ensures room { λ _. ⌜ length (now (todo .exit)) ≡ plies ⌝ }
+    ensures { λ r. ⌜ (r .stop ≡ true) × ((g : Steppable (now (words .entry)) (now (path .entry)) (now (positions .entry)) x s root) → Looping (g .start) s (now (words .entry)) (now (words .exit)) (now (path .exit)) (now (positions .exit)) r) ⌝ }
+{
+    let mut y = x;
+    while !y.stop {
+        y = step(table, words, path, positions, todo, y, s, root);
+    }
+    y
 }
 
 // The search of an accepted position in a pool of any words.
@@ -274,23 +297,21 @@ pub fn search(words: &mut [u32], g: Game, s: Settings) -> SearchResult
     let root_words = g.words;
     let root = game::side_to_move(&root_words, 0);
     let first = begin(&table, words, &mut path, &mut positions, g, s.rule);
-    let mut x = Running {
+    let x = Running {
         prover: first,
         tick: s.interval,
         stop: false,
         cause: 0,
     };
-    while !x.stop {
-        x = step(
-            &table,
-            words,
-            &mut path,
-            &mut positions,
-            &mut todo,
-            x,
-            s,
-            root,
-        );
-    }
-    finish(words, &path, s, x)
+    let last = run(
+        &table,
+        words,
+        &mut path,
+        &mut positions,
+        &mut todo,
+        x,
+        s,
+        root,
+    );
+    finish(words, &path, s, last)
 }

@@ -28,7 +28,7 @@ same-length-2 : tie.Need-same-length-2
 same-length-2 c = search needs
 
 returns-2 : tie.Need-returns-2
-returns-2 c = (c .before .before .before .before .before .before .before .before .before .before .before .before .pre .0, λ g. stepped-spent g (c .if2 .taken) _ refl refl refl)
+returns-2 c = (c .before .before .before .before .before .before .before .before .before .before .before .before .pre .0, λ g. stepped-spent g (c .if2 .taken) (root-solved g _ _ _ (c .before .before .before .before .before .before .before .before .phi .ensures) (c .before .before .before .before .before .before .delta .ensures) (c .before .before .before .before .solved .ensures) ∙ c .before .before .before .if1 .left) _ refl refl refl refl)
 
 round-requires : tie.Need-round-requires
 round-requires c κs =

@@ -1,0 +1,40 @@
+-- `pn::run` meets its contract: what is left of the search comes to its end. Assumes nothing.
+use borrow.Author.Tests.{not-true, not-false}
+use Rattle.pn.specs.Stepping.{left}
+use Rattle.pn.specs.Searches.{Loop}
+use Rattle.pn.specs.Searches as loops
+use Rattle.pn.proofs.run.Statement.{statement}
+use Rattle.pn.proofs.run.Tie as tie
+
+abbrev Inv-loop : tie.InvT-loop
+Inv-loop table words₀ path₀ positions₀ todo₀ s root y₀ words path positions todo y = Loop words₀ path₀ positions₀ y₀ s root words path positions todo y
+
+abbrev μ-loop : tie.MeasureT-loop
+μ-loop table words₀ path₀ positions₀ todo₀ s root y₀ words path positions todo y = left y s
+
+loop-holds : tie.Need-loop-holds Inv-loop μ-loop
+loop-holds c = loops.loop-start _ _ _ _ _ _ _ (c .before .pre .0) (c .before .pre .1 .1)
+
+step-requires : tie.Need-step-requires Inv-loop μ-loop
+step-requires c κs =
+    let l = c .before .before .before .before .before .before .loop .inv in
+    (l .room, (c .before .before .before .before .before .before .before .before .pre .1 .0, loops.loop-step _ _ _ _ _ l (not-true _ (c .before .before .before .before .if1 .taken))))
+
+loop-less : tie.Need-loop-less Inv-loop μ-loop
+loop-less c = loops.loop-less _ _ _ _ _ (c .before .before .before .before .before .before .before .before .before .loop .inv) (not-true _ (c .before .before .before .before .before .before .before .if1 .taken)) _ _ _ _ (c .before .before .step .ensures .1)
+
+loop-again : tie.Need-loop-again Inv-loop μ-loop
+loop-again c =
+    let r = c .before .before .step in
+    loops.loop-next _ _ _ _ _ (c .before .before .before .before .before .before .before .before .before .loop .inv) (not-true _ (c .before .before .before .before .before .before .before .if1 .taken)) _ _ _ _ (r .ensures .1) _ (r .kept .1 .0) (r .ensures .0)
+
+same-length : tie.Need-same-length Inv-loop μ-loop
+same-length c = c .before .before .loop .inv .long
+
+returns : tie.Need-returns Inv-loop μ-loop
+returns c = (c .before .before .loop .inv .room, (not-false _ (c .if1 .left), c .before .before .loop .inv .each))
+
+pub run-spec : {M : Type 1} → statement M
+run-spec =
+    tie.close
+    (tie.spec Inv-loop μ-loop loop-holds step-requires loop-less loop-again same-length returns)
