@@ -1,4 +1,6 @@
 pub mod Rules
+pub mod Refusals
+pub mod RefusalLaws
 pub mod Record
 pub mod Answers
 pub mod Tests

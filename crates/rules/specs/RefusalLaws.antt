@@ -1,0 +1,29 @@
+-- Laws of lists of checks: what a list that refuses nothing tells of each check, and which check of a list refuses. Rests on Refusals.
+use mathlib.Core.Path.{_≡_, refl}
+use mathlib.Core.Bool.{Bool, true, false}
+use mathlib.Core.List.{List, _∷_}
+use Prim.Native.Nat.{ℕ, zero, suc}
+use native.Mathlib.Omega.{arith}
+use Rattle.rules.specs.Refusals.{refuses, firstRefusal}
+
+-- a list refuses nothing exactly if its first check passes and the others refuse nothing
+pub none-refuses : (n : ℕ) (ns : List ℕ) → firstRefusal (n ∷ ns) ≡ 0 → (n ≡ 0) × (firstRefusal ns ≡ 0)
+unfolding firstRefusal
+none-refuses zero ns e = (refl, e)
+none-refuses (suc n) ns e = absurd (omega arith)
+
+-- the first check refuses, or else the rest decides
+pub first-refuses : (n : ℕ) (ns : List ℕ) → (n ≡ 0 → ⊥) → firstRefusal (n ∷ ns) ≡ n
+unfolding firstRefusal
+first-refuses zero ns z = absurd (z refl)
+first-refuses (suc n) ns z = refl
+
+pub rest-refuses : (n : ℕ) (ns : List ℕ) → n ≡ 0 → firstRefusal (n ∷ ns) ≡ firstRefusal ns
+unfolding firstRefusal
+rest-refuses zero ns e = refl
+rest-refuses (suc n) ns e = absurd (omega arith)
+
+-- a check that passes
+pub passes-check : (n : ℕ) (wrong : Bool) → refuses (suc n) wrong ≡ 0 → wrong ≡ false
+passes-check n true e = absurd (omega arith)
+passes-check n false e = refl
