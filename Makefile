@@ -1,7 +1,7 @@
 # What can be run here; README.md says what each is for.
 
-# The original's sources, and the directory of the proved static library.
-ULTIMATTT_SRC ?= $(abspath ../shared/docs/src)
+# The original, a clone of nelhage/ultimattt at commit 87ef0d9c7c (README.md), and the directory of the proved static library.
+ULTIMATTT_SRC ?= $(abspath $(firstword $(wildcard ../ultimattt ../shared/docs/src) ../ultimattt))
 ULTIMATTT_LIB ?= $(abspath target/staticlib)
 export ULTIMATTT_SRC ULTIMATTT_LIB
 
@@ -27,8 +27,14 @@ judge:
 	rt check judge
 	target/bin/judge < crates/judge/stdin
 
-# The proved static library: target/staticlib/libultimattt.a
-library:
+# The proved static library: target/staticlib/libultimattt.a, made anew where a source of a crate that it stands on has changed.
+LIBRARY = target/staticlib/libultimattt.a
+LIBRARY_CRATES = ultimattt $(shell sed -n 's/^ultimattt://p' crates.txt)
+LIBRARY_SOURCES = crates.txt $(shell find $(LIBRARY_CRATES:%=crates/%) -name '*.rt' -o -name '*.antt')
+
+library: $(LIBRARY)
+
+$(LIBRARY): $(LIBRARY_SOURCES)
 	rt staticlib ultimattt
 
 # A tool over the library that answers calls, one a line: harness/target/release/uttt
