@@ -123,7 +123,7 @@ module _ (G : Game) (L : Lawful G) (r : G .Pos) where
       counts-store G N c up n (renumber G n ks) ks (solved (renumber G n ks)) (h .opened) (unsolved n (h .phi-pos) (h .delta-pos)) (h .opened) refl
       (λ z y. omega (arith, some-zero G L (n .pos) ks (h .good) (h .by-moves) z .0)) b
 
-  stored-size : (c : Counts) (up : List (Ancestor (G .Pos))) (n : Node (G .Pos)) (ks : Children (G .Pos))
+  pub stored-size : (c : Counts) (up : List (Ancestor (G .Pos))) (n : Node (G .Pos)) (ks : Children (G .Pos))
       → sizes G up (store G c up n ks .node) (store G c up n ks .below) .nodes ≤ sizes G up n ks .nodes
   unfolding store sizes size
   stored-size c up n ks = go (solved (renumber G n ks))
@@ -168,7 +168,7 @@ module _ (G : Game) (L : Lawful G) (r : G .Pos) where
   alike n ks = record { pos = refl; move = refl }
 
   -- Changed: the node above is next
-  climb-up : (a : Ancestor (G .Pos)) (up : List (Ancestor (G .Pos))) (c : Counts) (n : Node (G .Pos)) (ks : Children (G .Pos)) → Climbing G r (a ∷ up) n ks
+  pub climb-up : (a : Ancestor (G .Pos)) (up : List (Ancestor (G .Pos))) (c : Counts) (n : Node (G .Pos)) (ks : Children (G .Pos)) → Climbing G r (a ∷ up) n ks
       → Climbing G r up (a .node) (append (a .before) (child (store G c up n ks .node) (store G c up n ks .below) (a .after)))
   unfolding store
   climb-up a up c n ks h =

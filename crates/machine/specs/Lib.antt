@@ -13,6 +13,7 @@ pub mod Climb
 pub mod Rounds
 pub mod Runs
 pub mod Reached
+pub mod Unheld
 pub mod Resume
 pub mod Third
 pub mod Standard
