@@ -5,7 +5,8 @@ use mathlib.Core.Bool.{Bool, true, false, not, Bool·beq}
 use Prim.Native.Nat.{ℕ, zero, suc, _-_}
 use lib.ListN.{getD}
 use Rattle.machine.specs.Game.{Game, backward, valueFrom, value, sequences}
-use Rattle.machine.specs.Machine.{Settings, True, False, Unknown, Result}
+use Rattle.machine.specs.Tree.{Node, bound, leaf, none, child, sumPhi}
+use Rattle.machine.specs.Machine.{Settings, renumber, True, False, Unknown, Result}
 use Rattle.machine.specs.Compute.{computed, printed, settings}
 
 -- A position of the toys: a number, and whether X is to move
@@ -157,3 +158,11 @@ none-of-81 = refl
 two-of-81 : computed wide (settings 90 1000 2 10) (record { at = 0; x = true }) ≡ printed Unknown 1 81 90 0 0 0 2 1
 unfolding computed upto
 two-of-81 = refl
+
+-- STEP 5 by itself: no search has two children lost for their mover side by side (Unheld.antt), but of them too it says that their sum is held
+lost-leaf : Node Toy
+lost-leaf = leaf (heaps true (λ x. not x)) (record { at = 0; x = true }) 1
+
+held-sum : renumber (heaps true (λ x. not x)) lost-leaf (child lost-leaf none (child lost-leaf none none)) .delta ≡ 4294967295
+unfolding lost-leaf renumber sumPhi leaf bound takes
+held-sum = refl
