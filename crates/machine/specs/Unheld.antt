@@ -1,5 +1,5 @@
--- No sum that a search takes in step 5 is held, and no number of its tree is the largest one: where at most 127 moves are left at the root, and the pool is
--- within the range, each is at most INFINITY and 16777216 for every move left. Rests on Reached.
+-- No sum that a search takes in step 5 is held, if its pool is within the range and at most 127 moves are left at its root: no sum, and no number in its tree,
+-- is more than INFINITY and 16777216 for each move left. Rests on Reached.
 use mathlib.Core.Path.{_≡_, refl, ap}
 use mathlib.Core.List.{List, [], _∷_, List·Memᴰ, List·Memᴰ·head, List·Memᴰ·tail}
 use mathlib.Core.Bool.{Bool, true, false, not, cond, Bool·beq}
@@ -19,7 +19,7 @@ use Rattle.machine.specs.Climb.{Climbing, stored-size, climb-stay, climb
 use Rattle.machine.specs.Rounds.{StateOk, expand-ok, found-leaf, leaf-state}
 use Rattle.machine.specs.Reached.{treeOf, tree, In, here, beneath, further, Reached, begin, descended, climbed, ends-reached, PoolInRange, reached-ok, reached-node, reached-numbers}
 
--- The most that a number comes to at a position
+-- The most that a number or a sum is at a position
 abbrev pub mostAt : (G : Game) → G .Pos → ℕ
 mostAt G p = INFINITY + G .left p * pool-max
 
@@ -30,31 +30,31 @@ Unheld G (a ∷ up) c n ks =
     let t = store G c up n ks in
     (sumPhi ks < u32-max) × (unchanged G n ks ≡ false → Unheld G up (t .counts) (a .node) (append (a .before) (child (t .node) (t .below) (a .after))))
 
--- A node in the tree of the root r: no more moves are left than at r, and a number beside a 0 is no more than that
-pub record Capped (G : Game) (r : G .Pos) (n : Node (G .Pos)) : Type 0 where
+-- A node in the tree of a search of r: no more moves are left than at r, and the number beside a 0 is no more than it may be
+record Capped (G : Game) (r : G .Pos) (n : Node (G .Pos)) : Type 0 where
   pub left : G .left (n .pos) ≤ G .left r
   pub if-won : n .phi ≡ 0 → n .delta ≤ mostAt G (n .pos)
   pub if-lost : n .delta ≡ 0 → n .phi ≤ mostAt G (n .pos)
 
 -- All nodes of a list and below, all above with their other children, and a whole tree
-abbrev pub AllCapped : (G : Game) → G .Pos → Children (G .Pos) → Type 0
+abbrev AllCapped : (G : Game) → G .Pos → Children (G .Pos) → Type 0
 AllCapped G r none = Unit {0}
 AllCapped G r (child n b ks) = Capped G r n × AllCapped G r b × AllCapped G r ks
 
-abbrev pub CappedAbove : (G : Game) → G .Pos → List (Ancestor (G .Pos)) → Type 0
+abbrev CappedAbove : (G : Game) → G .Pos → List (Ancestor (G .Pos)) → Type 0
 CappedAbove G r [] = Unit {0}
 CappedAbove G r (a ∷ up) = Capped G r (a .node) × AllCapped G r (a .before) × AllCapped G r (a .after) × CappedAbove G r up
 
-pub record TreeCapped (G : Game) (r : G .Pos) (up : List (Ancestor (G .Pos))) (n : Node (G .Pos)) (ks : Children (G .Pos)) : Type 0 where
+record TreeCapped (G : Game) (r : G .Pos) (up : List (Ancestor (G .Pos))) (n : Node (G .Pos)) (ks : Children (G .Pos)) : Type 0 where
   pub node : Capped G r n
   pub below : AllCapped G r ks
   pub above : CappedAbove G r up
 
-abbrev pub StateCapped : (G : Game) → G .Pos → State (G .Pos) → Type 0
+abbrev StateCapped : (G : Game) → G .Pos → State (G .Pos) → Type 0
 StateCapped G r s = TreeCapped G r (s .above) (s .node) (s .below)
 
 -- At most one child is lost for its mover
-abbrev pub OneLost : {Pos : Type 0} → Children Pos → Type 0
+abbrev OneLost : {Pos : Type 0} → Children Pos → Type 0
 OneLost none = Unit {0}
 OneLost (child n b ks) = (n .delta ≡ 0 → 0 < leastDelta ks) × OneLost ks
 
@@ -126,7 +126,7 @@ module _ (G : Game) (L : Lawful G) (r : G .Pos) where
   least-most p m (child n b ks) h i c z = omega (arith, c .0 .if-won (omega arith), child-most p n (i .0) (i .1))
 
   -- Where a climb stands: what Climbing says, a tree that fits a pool and is capped, and at most one child lost for its mover
-  pub record ClimbingCapped (up : List (Ancestor (G .Pos))) (n : Node (G .Pos)) (ks : Children (G .Pos)) : Type 0 where
+  record ClimbingCapped (up : List (Ancestor (G .Pos))) (n : Node (G .Pos)) (ks : Children (G .Pos)) : Type 0 where
     pub climbing : Climbing G r up n ks
     pub small : sizes G up n ks .nodes ≤ pool-max
     pub capped : TreeCapped G r up n ks

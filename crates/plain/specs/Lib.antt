@@ -3,3 +3,4 @@ pub mod Cases
 pub mod Oracle
 pub mod Laws
 pub mod TwoSearches
+pub mod Unheld
