@@ -1,7 +1,7 @@
 -- Checks 2 to 6 as the code makes them, on what it keeps of a position's boards. Rests on Reading and Marks.
 use mathlib.Core.Path.{_≡_, refl, ap, sym, _∙_}
 use mathlib.Core.Bool.{Bool, true, false, cond, not, _&&_, _||_}
-use mathlib.Core.List.{List, [], _∷_}
+use mathlib.Core.List.{List, [], _∷_, _++_}
 use Prim.Native.Nat.{ℕ, suc, _+_, _<_, _≤_}
 use native.Mathlib.Nat.{add-zero}
 use native.Mathlib.Numerals.{add-one}
@@ -14,6 +14,7 @@ use lib.Seq.{take-all}
 use Rattle.rules.specs.Rules.{Player, mark, code, all, count, hasLine, boardStates}
 use Rattle.rules.specs.Rules.Player.{X, O}
 use Rattle.rules.specs.Record.{sideBit, fairTurn, bothLines, positionRefusal}
+use Rattle.rules.specs.Refusals.{refuses, firstRefusal}
 use Rattle.rules.specs.Tests.{both-true}
 use Rattle.rules.specs.Boards.{length-states}
 use Rattle.game.specs.Masks.{hasBit, has-bit, nonzero}
@@ -51,19 +52,17 @@ own-line O cs = go (hasLine 1 cs) (hasLine 2 cs)
     go true false = refl
     go false b = refl
 
--- Checks 3, 4 and 5, and then k.
-abbrev pub later : Bool → Bool → Bool → ℕ → ℕ
-later f b w k = cond f 3 (cond b 4 (cond w 5 k))
-
--- The target's checks, 2 and 6, made at once: l and q for a target below 9, below 15, e for 15, h and n for a done board.
-order : (a l e q h n f b w : Bool) → (l ≡ true → n ≡ h) → (l ≡ false → e ≡ not q)
-    → cond (not (a && (l || e))) 2 (later f b w (cond (l && n) 6 0))
-    ≡ cond (not a) 2 (cond (eqb (cond l (cond h 6 0) (cond q 2 0)) 2) 2 (later f b w (cond l (cond h 6 0) (cond q 2 0))))
-order false l e q h n f b w i j = refl
-order true true e q true n f b w i j = rw (i refl)
-order true true e q false n f b w i j = rw (i refl)
-order true false e true h n f b w i j = rw (j refl)
-order true false e false h n f b w i j = rw (j refl)
+-- The target's checks, 2 and 6, made at once: l and q for a target below 9, below 15, e for 15, h and n for a done board; ms are the checks between them, ns those after.
+order : (a l e q h n : Bool) (ms ns : List ℕ) → (l ≡ true → n ≡ h) → (l ≡ false → e ≡ not q)
+    → let target : ℕ = cond l (refuses 6 h) (refuses 2 q) in
+    firstRefusal (refuses 2 (not (a && (l || e))) ∷ (ms ++ (refuses 6 (l && n) ∷ ns)))
+    ≡ firstRefusal (refuses 2 (not a) ∷ refuses 2 (eqb target 2) ∷ (ms ++ (target ∷ ns)))
+unfolding firstRefusal
+order false l e q h n ms ns i j = refl
+order true true e q true n ms ns i j = rw (i refl)
+order true true e q false n ms ns i j = rw (i refl)
+order true false e true h n ms ns i j = rw (j refl)
+order true false e false h n ms ns i j = rw (j refl)
 
 module _ (r : Boards) (t s : ℕ) (g : Checking r t s) where
   -- the states of the nine boards
@@ -95,16 +94,17 @@ module _ (r : Boards) (t s : ℕ) (g : Checking r t s) where
   unfolding states
   done h = rw (done-mask (r .states) states) (sym (has-bit nonzero (boardStates (g .position .cells)) t (omega (arith, length-states (g .position .cells)))))
 
+  -- Checks 3 to 5 in the code's terms.
+  abbrev pub middle : List ℕ
+  middle = refuses 3 (not (eqb (r .xs) (r .os + s))) ∷ refuses 4 (r .both) ∷ refuses 5 (lineIn (sideMask (r .states) s)) ∷ []
+
   -- Checks 2 to 6 in the code's terms.
   pub check-law : positionRefusal (g .position)
-      ≡ cond (not (eqb (r .rest) 0)) 2
-      (cond (eqb (targetRefusal t doneBits) 2) 2
-      (later (not (eqb (r .xs) (r .os + s))) (r .both) (lineIn (sideMask (r .states) s)) (targetRefusal t doneBits)))
+      ≡ firstRefusal (refuses 2 (not (eqb (r .rest) 0)) ∷ refuses 2 (eqb (targetRefusal t doneBits) 2) ∷ (middle ++ (targetRefusal t doneBits ∷ [])))
   unfolding positionRefusal
   check-law =
       rw (cells-coded, turn, sym (g .reads .both), own-line (g .position .side) (boardStates (g .position .cells)) ∙ won (g .position .side) (g .moves), ← g .aims)
-      (order (eqb (r .rest) 0) (ltb t 9) (eqb t 15) (ltb t 15) (hasBit doneBits t) (not (eqb (code (boardStates (g .position .cells)) t) 0))
-      (not (eqb (r .xs) (r .os + s))) (r .both) (lineIn (sideMask (r .states) s)) below above)
+      (order (eqb (r .rest) 0) (ltb t 9) (eqb t 15) (ltb t 15) (hasBit doneBits t) (not (eqb (code (boardStates (g .position .cells)) t) 0)) middle [] below above)
     where
       below : ltb t 9 ≡ true → not (eqb (code (boardStates (g .position .cells)) t) 0) ≡ hasBit doneBits t
       below e = done (ltb-true t 9 e)
@@ -118,11 +118,12 @@ module _ (r : Boards) (t s : ℕ) (g : Checking r t s) where
 
   -- check 2 of the target, n being what was said of it
   pub target-law : (n : ℕ) → n ≡ targetRefusal t doneBits → r .rest ≡ 0 → n ≡ 2 → n ≡ positionRefusal (g .position)
+  unfolding firstRefusal
   target-law n e z q = q ∙ sym (check-law ∙ rw (← e, eq-eqb (r .rest) 0 z, q))
 
   -- the rest of them once check 2 has passed, n being what was said of the target
-  pub coded-law : (n : ℕ) → n ≡ targetRefusal t doneBits → r .rest ≡ 0 → (n ≡ 2 → ⊥)
-      → positionRefusal (g .position) ≡ later (not (eqb (r .xs) (r .os + s))) (r .both) (lineIn (sideMask (r .states) s)) n
+  pub coded-law : (n : ℕ) → n ≡ targetRefusal t doneBits → r .rest ≡ 0 → (n ≡ 2 → ⊥) → positionRefusal (g .position) ≡ firstRefusal (middle ++ (n ∷ []))
+  unfolding firstRefusal
   coded-law n e z q = check-law ∙ rw (← e, eq-eqb (r .rest) 0 z, ne-eqb n 2 q)
 
   -- what the code adds up fits, and the mask of a side is nine bits

@@ -8,11 +8,13 @@ use borrow.Author.Tests.{ne-eqb, lt-ltb}
 use lib.Dec.{ltb}
 use lib.ListN.{getD, length, take, drop, List·getD-append}
 use lib.Seq.{sets, sets-eq, length-sets, length-take-le, getD-take, getD-append-add}
-use Rattle.rules.specs.Rules.{Player, mark, all, board, boardStates}
+use Rattle.rules.specs.Rules.{Player, mark, board, boardStates}
 use Rattle.rules.specs.Rules.Player.{X, O}
-use Rattle.rules.specs.Record.{bitAt, number, sideBit, coded, positionOf, positionRefusal, refusal}
+use Rattle.rules.specs.Record.{bitAt, number, sideBit, positionOf, positionRefusal, refusal}
+use Rattle.rules.specs.Refusals.{firstRefusal}
+use Rattle.rules.specs.RefusalLaws.{last-refuses}
+use Rattle.rules.specs.Checks.{passes}
 use Rattle.rules.specs.Answers.{all-answers}
-use Rattle.rules.specs.Tests.{held, both-true}
 use Rattle.rules.specs.Bits.{number-lt}
 use Rattle.rules.specs.Roundtrip.{load-bits, load-whole, bit-back}
 use Rattle.game.specs.Masks.{mask}
@@ -22,16 +24,16 @@ use Rattle.record.specs.Reading.{Reads, Checking}
 
 module _ (bs : List ℕ) where
   pub refused-1 : (length bs ≡ 21 → ⊥) → 1 ≡ refusal bs
-  unfolding refusal
+  unfolding refusal firstRefusal
   refused-1 n = rw (ne-eqb (length bs) 21 n)
 
   pub refused-2 : length bs ≡ 21 → (bitAt bs 167 ≡ 0 → ⊥) → 2 ≡ refusal bs
-  unfolding refusal
+  unfolding refusal firstRefusal
   refused-2 e n = rw (e, ne-eqb (bitAt bs 167) 0 n)
 
   pub refused-later : length bs ≡ 21 → bitAt bs 167 ≡ 0 → positionRefusal (positionOf bs) ≡ refusal bs
-  unfolding refusal
-  refused-later e z = rw (e, z)
+  unfolding refusal firstRefusal
+  refused-later e z = rw (e, z) (sym (last-refuses (positionRefusal (positionOf bs))))
 
 module _ (bs : List ℕ) (r : Boards) (t s : ℕ) (reads : Reads (positionOf bs .cells) 9 r) (et : t ≡ number (bitAt bs) 1 4) (es : s ≡ bitAt bs 0) where
   unfoldable pub checking : Checking r t s
@@ -72,10 +74,10 @@ module _ (r : Boards) (t s : ℕ) (g : Checking r t s) where
 
   -- They hold the position.
   pub holds : positionRefusal (g .position) ≡ 0 → Holds (g .position) finished 0
-  unfolding positionRefusal boardStates tail
+  unfolding boardStates tail
   holds e = record {
     whole = g .whole;
-    codes = both-true (all (λ c. ltb c 3) (g .position .cells)) _ (held (coded (g .position)) 1 _ e .0) .0;
+    codes = passes (g .position) e .codes;
     room = rw (length-sets (r .words) 18 tail) (omega (arith, g .reads .room));
     masks = masks;
     won = won;

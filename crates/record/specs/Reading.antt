@@ -7,6 +7,7 @@ use lib.Dec.{eqb, ltb}
 use lib.ListN.{getD, length, take}
 use Rattle.rules.specs.Rules.{Player, Position, mark, answers, all, any, count, state, board}
 use Rattle.rules.specs.Record.{sideBit, bothLines}
+use Rattle.rules.specs.Refusals.{refuses}
 use Rattle.game.specs.Masks.{mask, hasBit}
 use Rattle.record.specs.declared.Codes.{Codes}
 use Rattle.record.specs.declared.Boards.{Boards}
@@ -51,7 +52,7 @@ pub record Adding (r : Boards) (b : ℕ) (m : Codes) : Type 0 where
 
 -- What checks 2 and 6 say of a target, the done boards being the bits of a mask.
 abbrev pub targetRefusal : ℕ → ℕ → ℕ
-targetRefusal t done = cond (ltb t 9) (cond (hasBit done t) 6 0) (cond (ltb t 15) 2 0)
+targetRefusal t done = cond (ltb t 9) (refuses 6 (hasBit done t)) (refuses 2 (ltb t 15))
 
 -- The mask of a side's code.
 abbrev pub sideMask : Codes → ℕ → ℕ

@@ -1,5 +1,5 @@
 -- What passing the checks of a record stands for, by name: Passes for checks 2 to 6 of a position, Loads for 1 to 6 of the bytes; both ways. And the shape of
--- an accepted position. Rests on Record, Boards and Tests.
+-- an accepted position. Rests on Record, RefusalLaws, Boards and Tests.
 use mathlib.Core.Bool.{Bool, true, false, not, _&&_, _||_, and-false}
 use mathlib.Core.Path.{_≡_, sym, ap, _∙_}
 use mathlib.Core.List.{List, []}
@@ -12,7 +12,9 @@ use lib.ListN.{length}
 use Rattle.rules.specs.Rules.{Player, Position, mark, code, answers, all, any, hasLine, state, board, boardStates, count}
 use Rattle.rules.specs.Rules.Player.{X, O}
 use Rattle.rules.specs.Record.{bitAt, number, positionOf, coded, fairTurn, bothLines, positionRefusal, refusal, Accepted}
-use Rattle.rules.specs.Tests.{passed, held, both-true, both-false, one-true, implied, implies, not-any, all-at, at-all}
+use Rattle.rules.specs.Refusals.{firstRefusal}
+use Rattle.rules.specs.RefusalLaws.{none-refuses, passes-check, passes-need}
+use Rattle.rules.specs.Tests.{both-true, both-false, one-true, implied, implies, not-any, all-at, at-all}
 use Rattle.rules.specs.Answers.{length-answers, answers-zero}
 use Rattle.rules.specs.Boards.{code-states}
 
@@ -55,28 +57,28 @@ pub passes : (p : Position) → positionRefusal p ≡ 0 → Passes p
 unfolding positionRefusal
 passes p e =
     let states : List ℕ = boardStates (p .cells) in
-    let two = held (coded p) 1 _ e in
-    let shape = both-true (all (λ c. ltb c 3) (p .cells)) (ltb (p .target) 9 || eqb (p .target) 15) (two .0) in
-    let three = held (fairTurn (p .side) (count 1 (p .cells)) (count 2 (p .cells))) 2 _ (two .1) in
-    let four = passed (any bothLines (answers (board (p .cells)) 0 9)) 3 _ (three .1) in
-    let five = passed (bothLines states || hasLine (mark (p .side)) states) 4 _ (four .1) in
-    let six = passed (ltb (p .target) 9 && not (eqb (code states (p .target)) 0)) 5 0 (five .1) in
+    let two = none-refuses _ _ e in
+    let three = none-refuses _ _ (two .1) in
+    let four = none-refuses _ _ (three .1) in
+    let five = none-refuses _ _ (four .1) in
+    let six = none-refuses _ _ (five .1) in
+    let shape = both-true (all (λ c. ltb c 3) (p .cells)) (ltb (p .target) 9 || eqb (p .target) 15) (passes-need 1 (coded p) (two .0)) in
     record {
       codes = shape .0;
       target-range = range-of (p .target) (shape .1);
-      turn = three .0;
-      not-both = none-of bothLines (p .cells) (four .0);
-      lineless = both-false (bothLines states) (hasLine (mark (p .side)) states) (five .0) .1;
+      turn = passes-need 2 _ (three .0);
+      not-both = none-of bothLines (p .cells) (passes-check 3 _ (four .0));
+      lineless = both-false (bothLines states) (hasLine (mark (p .side)) states) (passes-check 4 _ (five .0)) .1;
       target-open = λ l.
           sym (code-states (p .cells) (p .target) l)
-          ∙ eqb-true (code states (p .target)) 0 (implied (ltb (p .target) 9) (eqb (code states (p .target)) 0) (six .0) (lt-ltb (p .target) 9 l));
+          ∙ eqb-true (code states (p .target)) 0 (implied (ltb (p .target) 9) (eqb (code states (p .target)) 0) (passes-check 5 _ (six .0)) (lt-ltb (p .target) 9 l));
     }
 
 target-test : (cs : List ℕ) (t : ℕ) → (t < 9 → state (board cs t) ≡ 0) → (ltb t 9 && not (eqb (code (boardStates cs) t) 0)) ≡ false
 target-test cs t h = implies (ltb t 9) (eqb (code (boardStates cs) t) 0) (λ e. eq-eqb (code (boardStates cs) t) 0 (code-states cs t (ltb-true t 9 e) ∙ h (ltb-true t 9 e)))
 
 pub passes-refusal : (p : Position) → Passes p → positionRefusal p ≡ 0
-unfolding positionRefusal
+unfolding positionRefusal firstRefusal
 passes-refusal p h =
     rw (
       h .codes,
@@ -97,12 +99,17 @@ pub record Loads (bs : List ℕ) : Type 0 where
 pub loads : (bs : List ℕ) → refusal bs ≡ 0 → Loads bs
 unfolding refusal
 loads bs e =
-    let one = held (eqb (length bs) 21) 0 _ e in
-    let two = held (eqb (bitAt bs 167) 0) 1 _ (one .1) in
-    record { bytes = eqb-true (length bs) 21 (one .0); last-zero = eqb-true (bitAt bs 167) 0 (two .0); loaded = two .1 }
+    let one = none-refuses _ _ e in
+    let two = none-refuses _ _ (one .1) in
+    let later = none-refuses _ _ (two .1) in
+    record {
+      bytes = eqb-true (length bs) 21 (passes-need 0 _ (one .0));
+      last-zero = eqb-true (bitAt bs 167) 0 (passes-need 1 _ (two .0));
+      loaded = later .0;
+    }
 
 pub loads-refusal : (bs : List ℕ) → Loads bs → refusal bs ≡ 0
-unfolding refusal
+unfolding refusal firstRefusal
 loads-refusal bs h = rw (h .bytes, h .last-zero, h .loaded)
 
 -- a record that is not refused says an accepted position

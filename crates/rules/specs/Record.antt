@@ -1,12 +1,13 @@
--- The record of document 01: its 21 bytes by bits, checks 1 to 6 of the table under 'Turned back', and the record of a position. Rests on Rules.
+-- The record of document 01: its 21 bytes by bits, checks 1 to 6 of the table under 'Turned back', and the record of a position. Rests on Rules and Refusals.
 use mathlib.Core.Bool.{Bool, cond, not, _&&_, _||_}
-use mathlib.Core.List.{List, []}
+use mathlib.Core.List.{List, [], _∷_}
 use mathlib.Core.Path.{_≡_}
 use Prim.Native.Nat.{ℕ, zero, suc, _+_, _*_, _-_, _/_, _%_, _^_}
 use lib.Dec.{eqb, ltb}
 use lib.ListN.{getD, length}
 use Rattle.rules.specs.Rules.{Player, Position, mark, code, answers, all, any, hasLine, board, boardStates, count}
 use Rattle.rules.specs.Rules.Player.{X, O}
+use Rattle.rules.specs.Refusals.{refuses, firstRefusal}
 
 -- Bit o of the bytes, the most significant of each first.
 unfoldable pub bitAt : List ℕ → ℕ → ℕ
@@ -47,22 +48,24 @@ fairTurn O x o = eqb x (suc o)
 abbrev pub bothLines : List ℕ → Bool
 bothLines cs = hasLine 1 cs && hasLine 2 cs
 
--- Checks 2 to 6 of what a record says, in their order: the number of the first that turns it back, or 0.
+-- Checks 2 to 6 of what a record says: the first that refuses it, or 0.
 unfoldable pub positionRefusal : Position → ℕ
 positionRefusal p =
     let states : List ℕ = boardStates (p .cells) in
-    cond (not (coded p)) 2
-    (cond (not (fairTurn (p .side) (count 1 (p .cells)) (count 2 (p .cells)))) 3
-    (cond (any bothLines (answers (board (p .cells)) 0 9)) 4
-    (cond (bothLines states || hasLine (mark (p .side)) states) 5
-    (cond (ltb (p .target) 9 && not (eqb (code states (p .target)) 0)) 6 0))))
+    firstRefusal (
+    refuses 2 (not (coded p)) ∷
+    refuses 3 (not (fairTurn (p .side) (count 1 (p .cells)) (count 2 (p .cells)))) ∷
+    refuses 4 (any bothLines (answers (board (p .cells)) 0 9)) ∷
+    refuses 5 (bothLines states || hasLine (mark (p .side)) states) ∷
+    refuses 6 (ltb (p .target) 9 && not (eqb (code states (p .target)) 0)) ∷ [])
 
--- Checks 1 to 6 of a record, in their order: the number of the first that turns it back, or 0.
+-- Checks 1 to 6 of a record: the first that refuses it, or 0.
 unfoldable pub refusal : List ℕ → ℕ
 refusal bs =
-    cond (not (eqb (length bs) 21)) 1
-    (cond (not (eqb (bitAt bs 167) 0)) 2
-    (positionRefusal (positionOf bs)))
+    firstRefusal (
+    refuses 1 (not (eqb (length bs) 21)) ∷
+    refuses 2 (not (eqb (bitAt bs 167) 0)) ∷
+    positionRefusal (positionOf bs) ∷ [])
 
 -- An accepted position: 81 cells that pass every check ahead of 7.
 pub record Accepted (p : Position) : Type 0 where

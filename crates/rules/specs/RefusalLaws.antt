@@ -1,7 +1,7 @@
 -- Laws of lists of checks: what a list that refuses nothing tells of each check, and which check of a list refuses. Rests on Refusals.
 use mathlib.Core.Path.{_≡_, refl}
-use mathlib.Core.Bool.{Bool, true, false}
-use mathlib.Core.List.{List, _∷_}
+use mathlib.Core.Bool.{Bool, true, false, not}
+use mathlib.Core.List.{List, [], _∷_}
 use Prim.Native.Nat.{ℕ, zero, suc}
 use native.Mathlib.Omega.{arith}
 use Rattle.rules.specs.Refusals.{refuses, firstRefusal}
@@ -23,7 +23,17 @@ unfolding firstRefusal
 rest-refuses zero ns e = refl
 rest-refuses (suc n) ns e = absurd (omega arith)
 
--- a check that passes
+-- the last check of a list has the last word
+pub last-refuses : (n : ℕ) → firstRefusal (n ∷ []) ≡ n
+unfolding firstRefusal
+last-refuses zero = refl
+last-refuses (suc n) = refl
+
+-- a check that passes: what it looks for isn't so, or what it asks for is
 pub passes-check : (n : ℕ) (wrong : Bool) → refuses (suc n) wrong ≡ 0 → wrong ≡ false
 passes-check n true e = absurd (omega arith)
 passes-check n false e = refl
+
+pub passes-need : (n : ℕ) (right : Bool) → refuses (suc n) (not right) ≡ 0 → right ≡ true
+passes-need n true e = refl
+passes-need n false e = absurd (omega arith)

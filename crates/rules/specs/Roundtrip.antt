@@ -12,6 +12,8 @@ use lib.ListN.{getD, length, List·getD-eq-default}
 use Rattle.rules.specs.Rules.{Player, Position, answers}
 use Rattle.rules.specs.Rules.Player.{X, O}
 use Rattle.rules.specs.Record.{bitAt, number, playerOf, sideBit, positionOf, recordBit, recordOf, positionRefusal, refusal, Accepted}
+use Rattle.rules.specs.Refusals.{firstRefusal}
+use Rattle.rules.specs.RefusalLaws.{last-refuses}
 use Rattle.rules.specs.Bits.{Bits, bit, number-lt, number-bit, number-of-bits}
 use Rattle.rules.specs.Answers.{answers-zero, answers-are}
 use Rattle.rules.specs.Tests.{all-at}
@@ -178,8 +180,8 @@ module _ (p : Position) (shape : Shaped p) where
 
   -- Its record is refused by what is wrong with it, and by no other check.
   pub store-refusal : refusal (recordOf p) ≡ positionRefusal p
-  unfolding refusal
-  store-refusal = rw (record-length p, read-back p 167 (omega arith), record-last p, load-store)
+  unfolding refusal firstRefusal
+  store-refusal = rw (record-length p, read-back p 167 (omega arith), record-last p, load-store) (last-refuses (positionRefusal p))
 
 -- A loaded record stored again is its own bytes.
 pub loaded-stores : (bs : List ℕ) → ((i : ℕ) → getD bs i 0 < 256) → refusal bs ≡ 0 → recordOf (positionOf bs) ≡ bs

@@ -4,6 +4,8 @@ use mathlib.Core.Path.{_≡_, ap, sym, _∙_}
 use native.Mathlib.Omega.{arith}
 use borrow.Author.Tests.{eq-eqb, ne-eqb}
 use borrow.Author.Needs.{needs}
+use Rattle.rules.specs.Refusals.{firstRefusal}
+use Rattle.rules.specs.RefusalLaws.{last-refuses}
 use Rattle.rules.specs.Roundtrip.{side-lt}
 use Rattle.game.specs.Lines.{lineIn}
 use Rattle.record.specs.Checked.{check-law, target-law, coded-law, states-lt, own-lt, os-few}
@@ -20,6 +22,7 @@ check-target-requires : tie.Need-check-target-requires
 check-target-requires c κs = search needs
 
 returns : tie.Need-returns
+unfolding firstRefusal
 returns c g =
     let boards = c .before .before .before .before .before .before .args .boards in
     let some : boards .rest ≡ 0 → ⊥ = λ e. omega (arith, c .if1 .taken) in
@@ -39,6 +42,7 @@ add-if3 c =
     omega (arith, os-few _ _ _ g, side-lt (g .position .side), g .moves)
 
 returns-3 : tie.Need-returns-3
+unfolding firstRefusal
 returns-3 c g =
     let checked = c .before .before .before in
     let start = checked .before .before .before .before .before .before .before .args in
@@ -47,6 +51,7 @@ returns-3 c g =
     sym (rest ∙ rw (ne-eqb _ _ unfair))
 
 returns-4 : tie.Need-returns-4
+unfolding firstRefusal
 returns-4 c g =
     let checked = c .before .before .before .before in
     let start = checked .before .before .before .before .before .before .before .args in
@@ -63,6 +68,7 @@ line-requires c κs =
     (start .pre .1, rw (c .of-side .ensures) (own-lt _ _ _ (start .pre .0)))
 
 returns-5 : tie.Need-returns-5
+unfolding firstRefusal
 returns-5 c g =
     let four = c .before .before .before in
     let checked = four .before .before .before .before in
@@ -71,12 +77,13 @@ returns-5 c g =
     sym (rest ∙ rw (eq-eqb _ _ (four .before .if3 .left), four .if4 .left, won))
 
 returns-6 : tie.Need-returns-6
+unfolding firstRefusal
 returns-6 c g =
     let four = c .before .before .before in
     let checked = four .before .before .before .before in
     let rest = coded-law _ _ _ g _ (checked .before .before .before .check-target .ensures) (checked .before .if1 .left) (checked .if2 .left) in
     let won = ap lineIn (sym (c .before .before .of-side .ensures)) ∙ sym (c .before .line .ensures) ∙ c .if5 .left in
-    sym (rest ∙ rw (eq-eqb _ _ (four .before .if3 .left), four .if4 .left, won))
+    sym (rest ∙ rw (eq-eqb _ _ (four .before .if3 .left), four .if4 .left, won) (last-refuses _))
 
 pub check-spec : {M : Type 1} → statement M
 check-spec =
