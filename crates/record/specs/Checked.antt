@@ -7,7 +7,7 @@ use native.Mathlib.Nat.{add-zero}
 use native.Mathlib.Numerals.{add-one}
 use native.Mathlib.Decide.{decLt}
 use native.Mathlib.Omega.{arith}
-use borrow.Author.Tests.{eq-eqb, ne-eqb, lt-ltb, le-ltb, ltb-true}
+use borrow.Author.Tests.{eq-eqb, ne-eqb, lt-ltb, ltb-true}
 use lib.Dec.{eqb, ltb, eqb·suc-zero}
 use lib.ListN.{take}
 use lib.Seq.{take-all}
@@ -52,17 +52,17 @@ own-line O cs = go (hasLine 1 cs) (hasLine 2 cs)
     go true false = refl
     go false b = refl
 
--- The target's checks, 2 and 6, made at once: l and q for a target below 9, below 15, e for 15, h and n for a done board; ms are the checks between them, ns those after.
-order : (a l e q h n : Bool) (ms ns : List ℕ) → (l ≡ true → n ≡ h) → (l ≡ false → e ≡ not q)
-    → let target : ℕ = cond l (refuses 6 h) (refuses 2 q) in
+-- The target's checks, 2 and 6, made at once: l for a target below 9, e for 15, h and n for a done board; ms are the checks between them, ns those after.
+order : (a l e h n : Bool) (ms ns : List ℕ) → (l ≡ true → n ≡ h)
+    → let target : ℕ = cond l (refuses 6 h) (refuses 2 (not e)) in
     firstRefusal (refuses 2 (not (a && (l || e))) ∷ (ms ++ (refuses 6 (l && n) ∷ ns)))
     ≡ firstRefusal (refuses 2 (not a) ∷ refuses 2 (eqb target 2) ∷ (ms ++ (target ∷ ns)))
 unfolding firstRefusal
-order false l e q h n ms ns i j = refl
-order true true e q true n ms ns i j = rw (i refl)
-order true true e q false n ms ns i j = rw (i refl)
-order true false e true h n ms ns i j = rw (j refl)
-order true false e false h n ms ns i j = rw (j refl)
+order false l e h n ms ns i = refl
+order true true e true n ms ns i = rw (i refl)
+order true true e false n ms ns i = rw (i refl)
+order true false true h n ms ns i = refl
+order true false false h n ms ns i = refl
 
 module _ (r : Boards) (t s : ℕ) (g : Checking r t s) where
   -- the states of the nine boards
@@ -104,17 +104,7 @@ module _ (r : Boards) (t s : ℕ) (g : Checking r t s) where
   unfolding positionRefusal
   check-law =
       rw (cells-coded, turn, sym (g .reads .both), own-line (g .position .side) (boardStates (g .position .cells)) ∙ won (g .position .side) (g .moves), ← g .aims)
-      (order (eqb (r .rest) 0) (ltb t 9) (eqb t 15) (ltb t 15) (hasBit doneBits t) (not (eqb (code (boardStates (g .position .cells)) t) 0)) middle [] below above)
-    where
-      below : ltb t 9 ≡ true → not (eqb (code (boardStates (g .position .cells)) t) 0) ≡ hasBit doneBits t
-      below e = done (ltb-true t 9 e)
-
-      above : ltb t 9 ≡ false → eqb t 15 ≡ not (ltb t 15)
-      above e = fifteen (decLt t 15)
-        where
-          fifteen : Dec (t < 15) → eqb t 15 ≡ not (ltb t 15)
-          fifteen (yes l) = rw (lt-ltb t 15 l, ne-eqb t 15 (λ q. omega arith))
-          fifteen (no n) = rw (le-ltb t 15 (omega arith), eq-eqb t 15 (omega (arith, g .low)))
+      (order (eqb (r .rest) 0) (ltb t 9) (eqb t 15) (hasBit doneBits t) (not (eqb (code (boardStates (g .position .cells)) t) 0)) middle [] (λ e. done (ltb-true t 9 e)))
 
   -- check 2 of the target, n being what was said of it
   pub target-law : (n : ℕ) → n ≡ targetRefusal t doneBits → r .rest ≡ 0 → n ≡ 2 → n ≡ positionRefusal (g .position)

@@ -44,7 +44,6 @@ module _ (bs : List ℕ) (r : Boards) (t s : ℕ) (reads : Reads (positionOf bs 
     small = all-answers (λ c. ltb c 4) (λ i. number (bitAt bs) (5 + 2 * i) 2) (λ i. lt-ltb _ 4 (number-lt (bitAt bs) (5 + 2 * i) (load-bits bs) 2)) 0 81;
     reads = reads;
     aims = et;
-    low = rw et (number-lt (bitAt bs) 1 (load-bits bs) 4);
     moves = es ∙ sym (bit-back (bitAt bs 0) (load-bits bs 0));
   }
 

@@ -1,6 +1,6 @@
 -- What the code keeps of a record while it reads: codes as masks, and the boards so far. Rests on the rules and the game's masks.
 use mathlib.Core.Path.{_≡_}
-use mathlib.Core.Bool.{true, cond}
+use mathlib.Core.Bool.{true, cond, not}
 use mathlib.Core.List.{List}
 use Prim.Native.Nat.{ℕ, _+_, _*_, _<_}
 use lib.Dec.{eqb, ltb}
@@ -52,7 +52,7 @@ pub record Adding (r : Boards) (b : ℕ) (m : Codes) : Type 0 where
 
 -- What checks 2 and 6 say of a target, the done boards being the bits of a mask.
 abbrev pub targetRefusal : ℕ → ℕ → ℕ
-targetRefusal t done = cond (ltb t 9) (refuses 6 (hasBit done t)) (refuses 2 (ltb t 15))
+targetRefusal t done = cond (ltb t 9) (refuses 6 (hasBit done t)) (refuses 2 (not (eqb t 15)))
 
 -- The mask of a side's code.
 abbrev pub sideMask : Codes → ℕ → ℕ
@@ -65,5 +65,4 @@ pub record Checking (r : Boards) (target side : ℕ) : Type 0 where
   pub small : all (λ c. ltb c 4) (position .cells) ≡ true
   pub reads : Reads (position .cells) 9 r
   pub aims : target ≡ position .target
-  pub low : target < 16
   pub moves : side ≡ sideBit (position .side)

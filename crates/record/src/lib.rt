@@ -165,7 +165,7 @@ fn read(bytes: &[u8], table: &[u8; 512]) -> Boards
     boards
 }
 
-// What checks 2 and 6 say of the target: 0 to 8 name a board, which must not be done; 9 to 14 are refused; 15 leaves the choice free.
+// What checks 2 and 6 say of the target: 0 to 8 name a board, which must not be done; 9 to 14 are refused; 15 leaves the choice free. Four bits give nothing above 15.
 fn check_target(target: u8, done: u16) -> u8
     ensures { λ r. ⌜ r ≡ targetRefusal target done ⌝ }
 {
@@ -177,7 +177,8 @@ fn check_target(target: u8, done: u16) -> u8
             0
         }
         9..=14 => 2,
-        _ => 0,
+        15 => 0,
+        _ => 2,
     }
 }
 
