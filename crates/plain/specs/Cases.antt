@@ -1,17 +1,14 @@
 -- The searches among the cases of document 01, 'Positions to try', as the plain machine's results: those marked *, as one lemma, and the other two of E.
--- Rests on Plain; everything is computed.
+-- E, W and D are the rules' (Examples; Cases there has them cell by cell). Rests on Plain; everything is computed.
 use mathlib.Core.Path.{_≡_, refl}
 use mathlib.Core.List.{List}
-use Prim.Native.Nat.{ℕ, _-_, _/_, _%_, _^_}
-use Rattle.rules.specs.Rules.{answers, hasLine, state, board, boardStates, gameState, play, legalMoves, drawn, finalValue}
+use Prim.Native.Nat.{ℕ}
+use Rattle.rules.specs.Rules.{hasLine, state, board, boardStates, gameState, play, legalMoves, drawn, finalValue}
 use Rattle.rules.specs.Record.{bitAt, positionOf}
+pub use Rattle.rules.specs.Examples.{record21, E, W, D}
 use Rattle.machine.specs.Machine.{Settings, Result, Verdict, True, False, Unknown}
 use Rattle.machine.specs.Compute.{computed}
 use Rattle.plain.specs.Plain.{searchOf, plainSearch}
-
--- The 21 bytes of a record written as one number, the first byte its most significant.
-abbrev pub record21 : ℕ → List ℕ
-record21 n = answers (λ k. n / 256 ^ (20 - k) % 256) 0 21
 
 abbrev pub settings : ℕ → ℕ → ℕ → ℕ → Settings
 settings pool limit budget interval = record { pool = pool; limit = limit; budget = budget; interval = interval }
@@ -35,15 +32,6 @@ computedSearch rule S bytes = plainSearch rule S bytes
 -- A case that names no rule: the result under each of the three.
 abbrev pub UnderEach : Settings → List ℕ → Result → Type 0
 UnderEach S bytes r = (plainSearch 0 S bytes ≡ r) × (plainSearch 1 S bytes ≡ r) × (plainSearch 2 S bytes ≡ r)
-
-abbrev pub E : List ℕ
-E = record21 0x780000000000000000000000000000000000000000
-
-abbrev pub W : List ℕ
-W = record21 0x12A000A80028051500054000000000000000000000
-
-abbrev pub D : List ℕ
-D = record21 0x7AB400AC0054001500054000A8002A000A80054000
 
 pub record Starred : Type 0 where
   pub E-spent : UnderEach (judgeWith 3276 0) E (fields Unknown 1 1 1 0 0 0 0 1)

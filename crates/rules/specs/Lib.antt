@@ -2,6 +2,7 @@ pub mod Rules
 pub mod Refusals
 pub mod RefusalLaws
 pub mod Record
+pub mod Examples
 pub mod Answers
 pub mod Tests
 pub mod Boards
