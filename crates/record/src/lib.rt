@@ -14,7 +14,7 @@ use game::Game;
 
 // Bit o of the bytes, the most significant of each first.
 fn bit_at(bytes: &[u8], o: usize) -> u8
-    requires { ⌜ (length (now bytes) ≡ 21) × (o < 168) ⌝ }
+    requires { ⌜ (21 ≤ length (now bytes)) × (o < 168) ⌝ }
     ensures { λ r. ⌜ r ≡ bitAt (now (bytes .entry)) o ⌝ }
 {
     (bytes[o / 8] >> (7 - o % 8)) % 2
@@ -22,7 +22,7 @@ fn bit_at(bytes: &[u8], o: usize) -> u8
 
 // The number that k bits make, from bit o on.
 fn number_at(bytes: &[u8], o: usize, k: usize) -> u8
-    requires { ⌜ (length (now bytes) ≡ 21) × (o + k ≤ 168) × (k ≤ 8) ⌝ }
+    requires { ⌜ (21 ≤ length (now bytes)) × (o + k ≤ 168) × (k ≤ 8) ⌝ }
     ensures { λ r. ⌜ r ≡ number (bitAt (now (bytes .entry))) o k ⌝ }
 {
     let mut v: u8 = 0;
@@ -69,7 +69,7 @@ fn put(codes: Codes, c: usize, code: u8) -> Codes
 
 // The cells of board b.
 fn cells(bytes: &[u8], b: usize) -> Codes
-    requires { ⌜ (length (now bytes) ≡ 21) × (b < 9) ⌝ }
+    requires { ⌜ (21 ≤ length (now bytes)) × (b < 9) ⌝ }
     ensures { λ r. ⌜ Masks (board (positionOf (now (bytes .entry)) .cells) b) r ⌝ }
 {
     let mut codes = Codes {
@@ -142,7 +142,7 @@ fn add(boards: Boards, table: &[u8; 512], b: usize, codes: Codes) -> Boards
 
 // All nine boards.
 fn read(bytes: &[u8], table: &[u8; 512]) -> Boards
-    requires { ⌜ (length (now bytes) ≡ 21) × (now table ≡ lineTable) ⌝ }
+    requires { ⌜ (21 ≤ length (now bytes)) × (now table ≡ lineTable) ⌝ }
     ensures { λ r. ⌜ Reads (positionOf (now (bytes .entry)) .cells) 9 r ⌝ }
 {
     let words = [0u16; 23];
