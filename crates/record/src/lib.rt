@@ -12,6 +12,27 @@ ghost use Rattle.game.specs.Words.{Holds, Held};
 ghost use Rattle.record.specs.Reading.{Masks, Putting, Whole, Reads, Adding, Checking, targetRefusal, sideMask};
 use game::Game;
 
+// A record's length in bytes.
+const RECORD_LENGTH: usize = 21;
+
+// Its last bit, which is 0.
+const LAST_BIT: usize = 167;
+
+// Where a position's words have, after the cells, the boards that X has won.
+const X_WON: usize = 18;
+
+// Those that O has won.
+const O_WON: usize = 19;
+
+// The drawn boards.
+const DRAWN: usize = 20;
+
+// The target.
+const TARGET: usize = 21;
+
+// The side to move.
+const SIDE: usize = 22;
+
 // Bit o of the bytes, the most significant of each first.
 fn bit_at(bytes: &[u8], o: usize) -> u8
     requires { ⌜ (21 ≤ length (now bytes)) × (o < 168) ⌝ }
@@ -232,10 +253,10 @@ fn refused(code: u8) -> Loaded
 pub fn load(bytes: &[u8]) -> Loaded
     ensures { λ r. ⌜ (r .code ≡ refusal (now (bytes .entry))) × (r .code ≡ 0 → Holds (positionOf (now (bytes .entry))) (r .game .words) 0) ⌝ }
 {
-    if bytes.len() != 21 {
+    if bytes.len() != RECORD_LENGTH {
         return refused(1);
     }
-    if bit_at(bytes, 167) != 0 {
+    if bit_at(bytes, LAST_BIT) != 0 {
         return refused(2);
     }
     let table = game::line_table();
@@ -245,11 +266,11 @@ pub fn load(bytes: &[u8]) -> Loaded
     let code = check(boards, target, side, &table);
     let states = boards.states;
     let mut words = boards.words;
-    words[18] = states.x;
-    words[19] = states.o;
-    words[20] = states.rest;
-    words[21] = target as u16;
-    words[22] = side as u16;
+    words[X_WON] = states.x;
+    words[O_WON] = states.o;
+    words[DRAWN] = states.rest;
+    words[TARGET] = target as u16;
+    words[SIDE] = side as u16;
     let game = Game { words };
     Loaded { code, game }
 }
@@ -272,7 +293,7 @@ fn record_bit(words: &[u16], o: usize) -> u8
 {
     match o {
         0 => game::side_to_move(words, 0) as u8,
-        1..=4 => ((words[21] >> (4 - o)) % 2) as u8,
+        1..=4 => ((words[TARGET] >> (4 - o)) % 2) as u8,
         5..=166 => cell_bit(words, (o - 5) / 2, o % 2),
         _ => 0,
     }
@@ -296,7 +317,7 @@ pub fn store(out: &mut [u8], g: Game)
     ensures { λ _. ⌜ ((p : Position) → Holds p (g .words) 0 → now (out .exit) ≡ recordOf p ++ drop 21 (now (out .entry))) ⌝ }
 {
     let words = g.words;
-    for k in 0..21 {
+    for k in 0..RECORD_LENGTH {
         out[k] = record_byte(&words, k);
     }
 }
