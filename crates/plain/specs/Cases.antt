@@ -1,4 +1,4 @@
--- The searches among the cases of document 01, 'Positions to try', as the plain machine's results: those marked *, as one lemma, and the other two of E.
+-- The searches among the cases of MANUAL, 'Positions to try', as the plain machine's results: those marked *, as one lemma, and the other two of E.
 -- E, W and D are the rules' (Examples; Cases there has them cell by cell). Rests on Plain; everything is computed.
 use mathlib.Core.Path.{_≡_, refl}
 use mathlib.Core.List.{List}
@@ -20,7 +20,7 @@ judgeWith pool budget = settings pool 18446744073709551615 budget 10000
 abbrev pub judge : Settings
 judge = judgeWith 3276 100000
 
--- The nine fields of a result in document 01's order.
+-- The nine fields of a result in their order (MANUAL, Search).
 abbrev pub fields : Verdict → ℕ → ℕ → ℕ → ℕ → ℕ → ℕ → ℕ → ℕ → Result
 fields v p d a f pr di e c = record { verdict = v; proof = p; disproof = d; allocated = a; freed = f; proved = pr; disproved = di; expanded = e; cause = c }
 

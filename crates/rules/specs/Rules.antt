@@ -1,4 +1,4 @@
--- The game of document 01: its sections 'The game' and 'Draw rules and value', in their order. Rests on the library's numbers and lists alone.
+-- The game: MANUAL, 'The game' and 'Draw rules and value', in their order. Rests on the library's numbers and lists alone.
 use mathlib.Core.Bool.{Bool, true, false, cond, not, _&&_, _||_}
 use mathlib.Core.List.{List, [], _∷_}
 use Prim.Native.Nat.{ℕ, zero, suc, _+_, _*_, _/_, _%_}
