@@ -8,7 +8,7 @@ use Rattle.rules.specs.Record.{bitAt, positionOf}
 pub use Rattle.rules.specs.Examples.{record21, E, W, D}
 use Rattle.machine.specs.Machine.{Settings, Result, Verdict, True, False, Unknown}
 use Rattle.machine.specs.Compute.{computed}
-use Rattle.plain.specs.Plain.{searchOf, plainSearch}
+use Rattle.plain.specs.Plain.{policyOf, searchOf, plainSearch}
 
 abbrev pub settings : ℕ → ℕ → ℕ → ℕ → Settings
 settings pool limit budget interval = record { pool = pool; limit = limit; budget = budget; interval = interval }
@@ -26,7 +26,7 @@ fields v p d a f pr di e c = record { verdict = v; proof = p; disproof = d; allo
 
 -- The plain machine's search of a record with every definition open, so that it computes.
 unfoldable pub computedSearch : ℕ → Settings → List ℕ → Result
-unfolding hasLine state board boardStates gameState play legalMoves drawn finalValue bitAt positionOf computed searchOf
+unfolding hasLine state board boardStates gameState play legalMoves drawn finalValue bitAt positionOf computed policyOf searchOf
 computedSearch rule S bytes = plainSearch rule S bytes
 
 -- A case that names no rule: the result under each of the three.

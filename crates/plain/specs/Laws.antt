@@ -1,4 +1,4 @@
--- The laws that the machine asks of a game, for every rule, root side and position; what an accepted position adds; and what N counts.
+-- The laws that the machine asks of a game and of its policy, for every rule and root side; what an accepted position adds; and what N counts.
 -- Rests on Plain and the laws of rules.
 use mathlib.Core.Path.{_≡_, refl, ap, _∙_, subst}
 use mathlib.Core.Bool.{Bool, true, false, not}
@@ -15,9 +15,13 @@ use Rattle.rules.specs.Record.{Accepted}
 use Rattle.rules.specs.LegalMoves.{Ascending, ascending, in-legal, legal-in, finished-none, unfinished-some}
 use Rattle.rules.specs.Plays.{turn-passes, one-less, count-length}
 use Rattle.machine.specs.Game.{backward, sequences}
+use Rattle.machine.specs.Tree.{Node, Children}
+use Rattle.machine.specs.Machine.{firstWith, standard}
 use Rattle.machine.specs.Value.{Lawful}
+use Rattle.machine.specs.Place.{Sane}
+use Rattle.machine.specs.Standard.{standard-sane}
 use Rattle.machine.specs.Sequences.{Distinct, Legal, Enumerates, sequences-list, sequences-count}
-use Rattle.plain.specs.Plain.{game, gameOf, sequencesOf}
+use Rattle.plain.specs.Plain.{game, gameOf, policyOf, sequencesOf}
 
 same-itself : (s : Player) → same s s ≡ true
 same-itself X = refl
@@ -34,6 +38,20 @@ lawful rule root = record {
   falls = λ p m i. omega (arith, one-less p m (in-legal p m i));
   turns = λ p m i. ap (same root) (turn-passes p m) ∙ same-other root (p .side);
 }
+
+-- The choices of steps 2 and 3: they are sane, the child that step 2 takes, and how many nodes step 3 asks for. Other crates use these three alone.
+module _ (rule : ℕ) (root : Player) where
+  pub policy-sane : Sane (game rule root) (policyOf rule root)
+  unfolding policyOf
+  policy-sane = standard-sane (game rule root) (lawful rule root)
+
+  pub policy-takes : (n : Node Position) (ks : Children Position) → policyOf rule root .select n ks ≡ firstWith (n .phi) ks
+  unfolding policyOf standard
+  policy-takes n ks = refl
+
+  pub policy-needs : (p : Position) → policyOf rule root .need p ≡ length (legalMoves p)
+  unfolding policyOf standard
+  policy-needs p = refl
 
 ascending-distinct : (l : List ℕ) → Ascending l → Distinct l
 ascending-distinct [] a = tt

@@ -6,13 +6,12 @@ use mathlib.Core.List.{List}
 use mathlib.Core.Logic.{_↔_}
 use Prim.Native.Nat.{ℕ, suc, _≤_, _<_}
 use Rattle.rules.specs.Record.{positionOf}
-use Rattle.machine.specs.Machine.{Settings, True, False, Unknown, standard}
+use Rattle.machine.specs.Machine.{Settings, True, False, Unknown}
 use Rattle.machine.specs.Runs.{NoLess}
 use Rattle.machine.specs.Reached.{PoolInRange}
-use Rattle.machine.specs.Third.{Answers, solved-live}
-use Rattle.machine.specs.Standard.{standard-sane, third-standard}
-use Rattle.plain.specs.Plain.{gameOf, valueOf, searchOf, recordValue, recordSequences, plainSearch}
-use Rattle.plain.specs.Laws.{lawful, root-mine, sequences-same}
+use Rattle.machine.specs.Third.{Answers, third, solved-live}
+use Rattle.plain.specs.Plain.{gameOf, policyOf, valueOf, searchOf, recordValue, recordSequences, plainSearch}
+use Rattle.plain.specs.Laws.{lawful, policy-sane, root-mine, sequences-same}
 
 -- One search: a True or False is the value; Unknown exactly when neither proof nor disproof is 0; with pool, limit and budget at least N it is never Unknown.
 pub record Answered (rule : ℕ) (bytes : List ℕ) (S : Settings) : Type 0 where
@@ -28,7 +27,7 @@ pub record TwoSearches (rule : ℕ) (bytes : List ℕ) (S T : Settings) : Type 0
   pub alike : NoLess S T → (plainSearch rule S bytes .verdict ≡ Unknown → ⊥) → plainSearch rule T bytes ≡ plainSearch rule S bytes
 
 module _ (rule : ℕ) (bytes : List ℕ) where
-  answered : (S : Settings) → Answers (gameOf rule (positionOf bytes)) (standard (gameOf rule (positionOf bytes))) (positionOf bytes) S → Answered rule bytes S
+  answered : (S : Settings) → Answers (gameOf rule (positionOf bytes)) (policyOf rule (positionOf bytes .side)) (positionOf bytes) S → Answered rule bytes S
   unfolding searchOf valueOf
   answered S a = record {
     true-value = a .true-value;
@@ -41,7 +40,7 @@ module _ (rule : ℕ) (bytes : List ℕ) where
   unfolding searchOf
   two-searches S T f g =
       let p = positionOf bytes in
-      let h = third-standard (gameOf rule p) (lawful rule (p .side)) p (root-mine rule p) S T f g in
+      let h = third (gameOf rule p) (lawful rule (p .side)) (policyOf rule (p .side)) (policy-sane rule (p .side)) p (root-mine rule p) S T f g in
       record { first = answered S (h .first); second = answered T (h .second); alike = h .alike }
 
   -- A solved search has live 1.
@@ -49,6 +48,4 @@ module _ (rule : ℕ) (bytes : List ℕ) where
   unfolding searchOf
   live-one S f v =
       let p = positionOf bytes in
-      let G = gameOf rule p in
-      let L = lawful rule (p .side) in
-      solved-live G L (standard G) (standard-sane G L) p (root-mine rule p) S f v
+      solved-live (gameOf rule p) (lawful rule (p .side)) (policyOf rule (p .side)) (policy-sane rule (p .side)) p (root-mine rule p) S f v
