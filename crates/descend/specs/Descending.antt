@@ -8,13 +8,12 @@ use lib.ListN.{getD}
 use Rattle.rules.specs.Rules.{Position}
 use Rattle.machine.specs.Game.{Game}
 use Rattle.machine.specs.Tree.{solved}
-use Rattle.machine.specs.Machine.{State, Policy, root, standard, down, toLeaf}
+use Rattle.machine.specs.Machine.{State, Policy, root, down, toLeaf}
 use Rattle.machine.specs.Place.{AtUnsolved}
 use Rattle.machine.specs.Descent.{down-ok, leaf-down, leaf-here}
 use Rattle.machine.specs.Rounds.{at-unsolved}
-use Rattle.machine.specs.Standard.{standard-sane}
-use Rattle.plain.specs.Plain.{game}
-use Rattle.plain.specs.Laws.{lawful}
+use Rattle.plain.specs.Plain.{game, policyOf}
+use Rattle.plain.specs.Laws.{lawful, policy-sane}
 use Rattle.words.specs.Packed.{expandedIn}
 use Rattle.words.specs.Words.{PACKED, word}
 use Rattle.prover.specs.declared.Prover.{Prover}
@@ -28,7 +27,7 @@ module _ {w path₀ ps₀ : List ℕ} {x : Prover} (g : Searching w path₀ ps�
   G = game (g .rule) (g .side)
 
   abbrev P : Policy G
-  P = standard G
+  P = policyOf (g .rule) (g .side)
 
   -- A state stands there, its current node unsolved, at place d, with number i and this packed word; from it step 2 comes to the leaf to which it comes from the start
   pub record Descending (path ps : List ℕ) (d i packed : ℕ) : Type 0 where
@@ -54,7 +53,7 @@ module _ {w path₀ ps₀ : List ℕ} {x : Prover} (g : Searching w path₀ ps�
     unfolding current
     descending-step o t =
         let L = lawful (g .rule) (g .side) in
-        let Q = standard-sane G L in
+        let Q = policy-sane (g .rule) (g .side) in
         let z = few current in
         let e = expanded current (ap expandedIn (sym packed-here) ∙ o) in
         let n = t current in

@@ -10,20 +10,19 @@ use Rattle.rules.specs.Rules.{Position, legalMoves, play, moveError}
 use Rattle.rules.specs.LegalMoves.{in-legal}
 use Rattle.machine.specs.Game.{Game}
 use Rattle.machine.specs.Tree.{Children, none, child}
-use Rattle.machine.specs.Machine.{State, state, Policy, firstWith, standard, into, down}
+use Rattle.machine.specs.Machine.{State, state, Policy, hasDelta, firstWith, down}
 use Rattle.machine.specs.Value.{Lawful}
 use Rattle.machine.specs.Numbers.{inner-of}
 use Rattle.machine.specs.Place.{pool-max, sizes, sizesOf, UnsolvedAt, Sane, by-moves-at}
 use Rattle.machine.specs.Descent.{taken, height}
-use Rattle.machine.specs.Standard.{standard-sane}
-use Rattle.plain.specs.Plain.{game}
-use Rattle.plain.specs.Laws.{lawful}
+use Rattle.plain.specs.Plain.{game, policyOf}
+use Rattle.plain.specs.Laws.{lawful, policy-sane, policy-takes}
 use Rattle.game.specs.Words as game-words
 use Rattle.game.specs.Moves.{Movable}
 use Rattle.words.specs.Packed.{view, expandedIn, moveIn, packed-read, expanded-yes, expanded-no}
 use Rattle.words.specs.Words.{PHI, PACKED, FIRST, word, Slot}
 use Rattle.words.specs.Trees.{Part}
-use Rattle.words.specs.Walks.{Looking, Chosen, looking-start}
+use Rattle.words.specs.Walks.{Looking, Chosen, chosen-down, looking-start}
 use Rattle.words.specs.Freeing.{plies}
 use Rattle.words.specs.States.{holds-down}
 use Rattle.positions.specs.Plies.{Pushed}
@@ -49,7 +48,7 @@ module _ {w path ps : List ℕ} {d : ℕ} (g : Unsolved w path ps d) where
   G = game (g .rule) (g .side)
 
   abbrev P : Policy G
-  P = standard G
+  P = policyOf (g .rule) (g .side)
 
   abbrev s : State Position
   s = g .at
@@ -58,7 +57,7 @@ module _ {w path ps : List ℕ} {d : ℕ} (g : Unsolved w path ps d) where
   L = lawful (g .rule) (g .side)
 
   Q : Sane G P
-  Q = standard-sane G L
+  Q = policy-sane (g .rule) (g .side)
 
   pub few : sizesOf G s .nodes ≤ pool-max
   unfolding sizes
@@ -81,16 +80,19 @@ module _ {w path ps : List ℕ} {d : ℕ} (g : Unsolved w path ps d) where
     first-here : first ≡ word w (getD path d 0) FIRST
     first-here = n .first-is ∙ ap (λ (j : ℕ). word w j FIRST) (n .id-is)
 
-    there : UnsolvedAt (s .below) (firstWith phi (s .below))
-    unfolding standard
-    there = rw phi-here (taken G L P Q (g .start) s (g .unsolved) few open-here)
+    -- Step 2 takes the first listed child whose delta is phi
+    takes : P .select (s .node) (s .below) ≡ firstWith phi (s .below)
+    takes = policy-takes (g .rule) (g .side) (s .node) (s .below) ∙ ap (λ (y : ℕ). firstWith y (s .below)) (sym phi-here)
 
-    looks : Looking (view G) w first phi (s .below) first
-    looks = looking-start (view G) w first phi (s .below) (rw first-here (g .stands .tree .tree .below)) (omega arith) there
+    there : UnsolvedAt (s .below) (firstWith phi (s .below))
+    there = subst (λ (j : ℕ). UnsolvedAt (s .below) j) takes (taken G L P Q (g .start) s (g .unsolved) few open-here)
+
+    looks : Looking (view G) w first (hasDelta phi) (s .below) first
+    looks = looking-start (view G) w first (hasDelta phi) (s .below) (rw first-here (g .stands .tree .tree .below)) (omega arith)
 
     -- What select asks for
     pub selectable : Selectable w first phi
-    selectable = (view G, s .below, looks)
+    selectable = record { view = view G; list = s .below; looking = looks; there = there }
 
     -- The path has a place below
     pub shallow : d < 81
@@ -101,15 +103,16 @@ module _ {w path ps : List ℕ} {d : ℕ} (g : Unsolved w path ps d) where
         go none o l = absurd o
         go (child m b ks) o l = omega arith
 
-    choice : {j : ℕ} → Selects w first phi j → Chosen (view G) w first phi (s .below) j
-    choice f = f (view G) (s .below) looks
+    -- The child that step 2 takes, by its place
+    chosen : {j : ℕ} → Selects w first phi j → Chosen (view G) w first (s .below) (P .select (s .node) (s .below)) j
+    chosen {j} f = subst (λ (place : ℕ). Chosen (view G) w first (s .below) place j) (sym takes) (f (view G) (s .below) looks there)
 
     pub child-slot : {j : ℕ} → Selects w first phi j → Slot w j
-    child-slot f = choice f .part .0 .slot
+    child-slot f = chosen f .part .0 .slot
 
     module _ {j packed move : ℕ} (k : ReadChild w first phi j packed move) where
-      abbrev c : Chosen (view G) w first phi (s .below) j
-      c = choice (k .selects)
+      abbrev c : Chosen (view G) w first (s .below) (P .select (s .node) (s .below)) j
+      c = chosen (k .selects)
 
       -- The child's move is legal and leads to its position
       move-here : move ≡ c .node .move
@@ -133,8 +136,8 @@ module _ {w path ps : List ℕ} {d : ℕ} (g : Unsolved w path ps d) where
       -- The path and the positions, with the child on them
       module _ {path′ ps′ : List ℕ} {place : ℕ} (on-path : path′ ≡ set path place j) (next : place ≡ suc d) (pushed : Pushed d move ps ps′) where
         down-is : down G P s ≡ state (s .counts) (record { node = s .node; before = c .before; after = c .after } ∷ s .above) (c .node) (c .below)
-        unfolding down standard
-        down-is = ap (λ (y : ℕ). into (s .counts) (s .above) (s .node) none (s .below) (firstWith y (s .below))) (sym phi-here) ∙ c .goes (s .counts) (s .above) (s .node)
+        unfolding down
+        down-is = chosen-down (view G) w first (s .below) (P .select (s .node) (s .below)) j c (s .counts) (s .above) (s .node)
 
         at-child : getD path′ (suc d) 0 ≡ j
         at-child = rw (on-path, next) (getD-set-same path (suc d) j 0 (omega (arith, shallow)))

@@ -2,10 +2,10 @@
 use Prim.Native.Nat.{ℕ}
 use Rattle.machine.specs.Game.{Game}
 use Rattle.machine.specs.Tree.{bound, leaf, solved, proofOf, disproofOf, size, leastDelta, sumPhi, append}
-use Rattle.machine.specs.Machine.{Settings, Verdict, Result, live, rootOf, root, start, firstWith, standard, into, down, descend, toLeaf, short, make, children, opened, expand, renumber, unchanged, store, climb, round, overLimit, verdictOf, result, run, ends, search}
+use Rattle.machine.specs.Machine.{Settings, Verdict, Result, live, rootOf, root, start, firstThat, standard, into, down, descend, toLeaf, short, make, children, opened, expand, renumber, unchanged, store, climb, round, overLimit, verdictOf, result, run, ends, search}
 
 unfoldable pub computed : (G : Game) → Settings → G .Pos → Result
-unfolding bound leaf solved proofOf disproofOf size leastDelta sumPhi append live rootOf root start firstWith standard into down descend toLeaf short make children opened expand renumber unchanged store climb round overLimit verdictOf result run ends search
+unfolding bound leaf solved proofOf disproofOf size leastDelta sumPhi append live rootOf root start firstThat standard into down descend toLeaf short make children opened expand renumber unchanged store climb round overLimit verdictOf result run ends search
 computed G S p = search G (standard G) S p
 
 -- The nine fields in the order in which they are printed

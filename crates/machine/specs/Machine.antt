@@ -42,9 +42,15 @@ start G p = state (counts 1 0 0 0 0) [] (leaf G p 255) none
 abbrev pub Policy : Game → Type 0
 Policy G = record { select : Node (G .Pos) → Children (G .Pos) → ℕ; need : G .Pos → ℕ }
 
-unfoldable pub firstWith : {Pos : Type 0} → ℕ → Children Pos → ℕ
-firstWith x none = 0
-firstWith x (child n b ks) = elim (eqb (n .delta) x) [ true ↦ 0 | false ↦ suc (firstWith x ks) ]
+unfoldable pub firstThat : {Pos : Type 0} → (Node Pos → Bool) → Children Pos → ℕ  -- the place of the first child that passes a test
+firstThat test none = 0
+firstThat test (child n b ks) = elim (test n) [ true ↦ 0 | false ↦ suc (firstThat test ks) ]
+
+abbrev pub hasDelta : {Pos : Type 0} → ℕ → Node Pos → Bool
+hasDelta x n = eqb (n .delta) x
+
+abbrev pub firstWith : {Pos : Type 0} → ℕ → Children Pos → ℕ
+firstWith x ks = firstThat (hasDelta x) ks
 
 -- Document 01's choice: the first listed child whose delta equals the node's phi; as many nodes as the leaf has legal moves
 unfoldable pub standard : (G : Game) → Policy G

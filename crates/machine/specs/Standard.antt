@@ -9,7 +9,7 @@ use lib.ListN.{length}
 use borrow.Author.Tests.{eqb-true, eqb-false}
 use Rattle.machine.specs.Game.{Game, sequences}
 use Rattle.machine.specs.Tree.{INFINITY, Children, none, child, leastDelta, bound, leaf, solved}
-use Rattle.machine.specs.Machine.{Settings, State, Policy, firstWith, standard, start, rootOf, root, run, ends}
+use Rattle.machine.specs.Machine.{Settings, State, Policy, firstThat, firstWith, standard, start, rootOf, root, run, ends}
 use Rattle.machine.specs.Value.{Lawful, extra, sequences-step}
 use Rattle.machine.specs.Place.{Infinite, UnsolvedAt, Sane}
 use Rattle.machine.specs.Rounds.{children-ok}
@@ -19,7 +19,7 @@ use Rattle.machine.specs.Third.{Third, third}
 
 -- The first listed child whose delta equals phi is unsolved
 first-open : {Pos : Type 0} (x : ℕ) (ks : Children Pos) → Infinite ks → 0 < x → x < INFINITY → x ≡ leastDelta ks → UnsolvedAt ks (firstWith x ks)
-unfolding leastDelta firstWith
+unfolding leastDelta firstThat
 first-open x none h a b e = absurd (omega arith)
 first-open x (child n c ks) h a b e = go (eqb (n .delta) x) refl (λ q. first-open x ks (h .1) a b q)
   where

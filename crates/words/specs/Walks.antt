@@ -1,24 +1,24 @@
--- Walks along a list of siblings: how long they are, the numbers worked out anew on the way, and the child that step 2 takes. Rests on Trees.
+-- Walks along a list of siblings: how long they are, the numbers worked out anew on the way, and the first child that passes a test. Rests on Trees.
 use mathlib.Core.Path.{_≡_, refl, ap, sym, _∙_, subst}
 use mathlib.Core.List.{List, _∷_}
-use mathlib.Core.Bool.{true, false}
+use mathlib.Core.Bool.{Bool, true, false}
 use Prim.Native.Nat.{ℕ, zero, suc, _+_, _≤_, _<_, min}
 use native.Mathlib.Omega.{arith}
 use lib.Dec.{eqb}
 use borrow.Author.Tests.{eq-eqb, ne-eqb}
 use Rattle.machine.specs.Tree.{Node, u32-max, Children, none, child, size, leastDelta, sumPhi, append}
-use Rattle.machine.specs.Machine.{Counts, Ancestor, state, into, firstWith}
+use Rattle.machine.specs.Machine.{Counts, Ancestor, state, into, firstThat}
 use Rattle.machine.specs.Place.{pool-max, UnsolvedAt, append-child}
 use Rattle.words.specs.Packed.{View}
 use Rattle.words.specs.Words.{NONE, PHI, DELTA, SIBLING, word, Slot, slot-some}
-use Rattle.words.specs.Trees.{Part, part-append}
+use Rattle.words.specs.Trees.{Held, Part, part-append}
 
 -- How many siblings there are from i on, k at most: what falls at each step of a walk
 unfoldable pub siblings : ℕ → List ℕ → ℕ → ℕ
 siblings zero w i = 0
 siblings (suc k) w i = elim (eqb i NONE) [ true ↦ 0 | false ↦ suc (siblings k w (word w i SIBLING)) ]
 
-unfoldable len : {Pos : Type 0} → Children Pos → ℕ
+unfoldable pub len : {Pos : Type 0} → Children Pos → ℕ  -- how many children a list has, those below them not counted
 len none = 0
 len (child n b ks) = suc (len ks)
 
@@ -96,82 +96,100 @@ module _ {Pos : Type 0} (K : View Pos) (w : List ℕ) (ks : Children Pos) where
   pub summing-walks : (phi delta i : ℕ) → Summing phi delta i → Walkable K w i
   summing-walks phi delta i s = record { list = s .rest; part = s .part; few = s .few }
 
--- Step 2 with document 01's choice: the first child whose delta is phi
-module _ {Pos : Type 0} (K : View Pos) (w : List ℕ) (first phi : ℕ) (ks : Children Pos) where
-  -- On the way: `before` is passed, and step 2 comes to the same from here
+-- Step 2 by a place of the list: past the children before it
+module _ {Pos : Type 0} where
+  len-append : (a b : Children Pos) → len (append a b) ≡ len a + len b
+  unfolding len append
+  len-append none b = omega arith
+  len-append (child n x a) b = omega (arith, len-append a b)
+
+  append-none : (a : Children Pos) → append a none ≡ a
+  unfolding append
+  append-none none = refl
+  append-none (child n x a) = ap (child n x) (append-none a)
+
+  into-at : (c : Counts) (up : List (Ancestor Pos)) (n : Node Pos) (a b : Children Pos) (m : Node Pos) (x r : Children Pos)
+      → into c up n a (append b (child m x r)) (len b) ≡ state c (record { node = n; before = append a b; after = r } ∷ up) m x
+  unfolding into append len
+  into-at c up n a none m x r = rw (append-none a)
+  into-at c up n a (child k y b) m x r =
+      into-at c up n (append a (child k y none)) b m x r ∙ ap (λ (d : Children Pos). state c (record { node = n; before = d; after = r } ∷ up) m x) (append-child a k y b)
+
+  unsolved-after : (b r : Children Pos) (j : ℕ) → UnsolvedAt (append b r) (len b + j) → UnsolvedAt r j
+  unfolding append len
+  unsolved-after none r j o = let e : 0 + j ≡ j = omega arith in subst (λ (i : ℕ). UnsolvedAt r i) e o
+  unsolved-after (child n x b) r j o =
+      let e : suc (len b) + j ≡ suc (len b + j) = omega arith in
+      unsolved-after b r j (subst (λ (i : ℕ). UnsolvedAt (child n x (append b r)) i) e o)
+
+-- The child at a place of the list is at number i, with those before and after it
+pub record Chosen {Pos : Type 0} (K : View Pos) (w : List ℕ) (first : ℕ) (ks : Children Pos) (place i : ℕ) : Type 0 where
+  pub before : Children Pos
+  pub node : Node Pos
+  pub below : Children Pos
+  pub after : Children Pos
+  pub passed : Part K w before first i
+  pub part : Part K w (child node below after) i NONE
+  pub whole : append before (child node below after) ≡ ks
+  pub place-is : place ≡ len before
+
+-- Step 2 goes to it
+pub chosen-down : {Pos : Type 0} (K : View Pos) (w : List ℕ) (first : ℕ) (ks : Children Pos) (place i : ℕ) (h : Chosen K w first ks place i)
+    (c : Counts) (up : List (Ancestor Pos)) (n : Node Pos) → into c up n none ks place ≡ state c (record { node = n; before = h .before; after = h .after } ∷ up) (h .node) (h .below)
+unfolding append
+chosen-down K w first ks place i h c up n = rw (h .place-is, ← h .whole) (into-at c up n none (h .before) (h .node) (h .below) (h .after))
+
+-- A walk to the first child that passes a test
+module _ {Pos : Type 0} (K : View Pos) (w : List ℕ) (first : ℕ) (test : Node Pos → Bool) (ks : Children Pos) where
+  -- At number i: those before it are passed, and the first that passes the test is among the rest, if there is one
   pub record Looking (i : ℕ) : Type 0 where
     pub before : Children Pos
     pub rest : Children Pos
     pub passed : Part K w before first i
     pub part : Part K w rest i NONE
     pub few : size rest ≤ pool-max
-    pub there : UnsolvedAt rest (firstWith phi rest)
     pub whole : append before rest ≡ ks
-    pub goes : (c : Counts) (up : List (Ancestor Pos)) (n : Node Pos) → into c up n none ks (firstWith phi ks) ≡ into c up n before rest (firstWith phi rest)
+    pub place-is : firstThat test ks ≡ len before + firstThat test rest
 
-  -- Found: the child at i, with those before and after it
-  pub record Chosen (i : ℕ) : Type 0 where
-    pub before : Children Pos
-    pub node : Node Pos
-    pub below : Children Pos
-    pub after : Children Pos
-    pub passed : Part K w before first i
-    pub part : Part K w (child node below after) i NONE
-    pub whole : append before (child node below after) ≡ ks
-    pub goes : (c : Counts) (up : List (Ancestor Pos)) (n : Node Pos) → into c up n none ks (firstWith phi ks) ≡ state c (record { node = n; before = before; after = after } ∷ up) node below
+  pub looking-start : Part K w ks first NONE → size ks ≤ pool-max → Looking first
+  unfolding append len
+  looking-start p l = record { before = none; rest = ks; passed = refl; part = p; few = l; whole = refl; place-is = omega arith }
 
-  pub looking-start : Part K w ks first NONE → size ks ≤ pool-max → UnsolvedAt ks (firstWith phi ks) → Looking first
-  unfolding append
-  looking-start p l o = record { before = none; rest = ks; passed = refl; part = p; few = l; there = o; whole = refl; goes = λ c up n. refl }
-
-  pub looking-some : (i : ℕ) → Looking i → i ≡ NONE → ⊥
-  looking-some i h = go (h .rest) (h .part) (h .there)
+  -- An unsolved one is still to come
+  pub looking-some : (i : ℕ) → Looking i → UnsolvedAt ks (firstThat test ks) → i ≡ NONE → ⊥
+  looking-some i h o = go (h .rest) (h .part) (unsolved-after (h .before) (h .rest) (firstThat test (h .rest)) (rw (h .whole, ← h .place-is) o))
     where
-      go : (r : Children Pos) → Part K w r i NONE → UnsolvedAt r (firstWith phi r) → i ≡ NONE → ⊥
+      go : (r : Children Pos) → Part K w r i NONE → UnsolvedAt r (firstThat test r) → i ≡ NONE → ⊥
       go none p o e = o
       go (child n b r) p o e = slot-some (p .0 .slot) e
 
   pub looking-walks : (i : ℕ) → Looking i → Walkable K w i
   looking-walks i h = record { list = h .rest; part = h .part; few = h .few }
 
-  pub looking-next : (i : ℕ) → (word w i DELTA ≡ phi → ⊥) → Looking i → Looking (word w i SIBLING)
-  unfolding firstWith size into append
-  looking-next i z h = go (h .rest) (h .part) (h .few) (h .there) (h .whole) (h .goes)
+  pub looking-next : (i : ℕ) → (i ≡ NONE → ⊥) → ((m : Node Pos) → Held K w m i → test m ≡ false) → Looking i → Looking (word w i SIBLING)
+  unfolding firstThat size len append
+  looking-next i some fails h = go (h .rest) (h .part) (h .few) (h .whole) (h .place-is)
     where
-      go : (r : Children Pos) → Part K w r i NONE → size r ≤ pool-max → UnsolvedAt r (firstWith phi r) → append (h .before) r ≡ ks
-          → ((c : Counts) (up : List (Ancestor Pos)) (n : Node Pos) → into c up n none ks (firstWith phi ks) ≡ into c up n (h .before) r (firstWith phi r)) → Looking (word w i SIBLING)
-      go none p l o t s = absurd o
-      go (child m b r) p l o t s =
-          let e : eqb (m .delta) phi ≡ false = ne-eqb (m .delta) phi (λ q. z (p .0 .delta-is ∙ q)) in
-          let at : firstWith phi (child m b r) ≡ suc (firstWith phi r) = rw (e, firstWith) in
+      go : (r : Children Pos) → Part K w r i NONE → size r ≤ pool-max → append (h .before) r ≡ ks → firstThat test ks ≡ len (h .before) + firstThat test r → Looking (word w i SIBLING)
+      go none p l t s = absurd (some p)
+      go (child m b r) p l t s =
+          let at : firstThat test (child m b r) ≡ suc (firstThat test r) = rw (fails m (p .0), firstThat) in
           record {
             before = append (h .before) (child m b none);
             rest = r;
             passed = part-append K w (h .before) (child m b none) first i (word w i SIBLING) (h .passed) (p .0, p .1, refl) .0;
             part = p .2;
             few = omega arith;
-            there = subst (λ (j : ℕ). UnsolvedAt (child m b r) j) at o;
             whole = append-child (h .before) m b r ∙ t;
-            goes = λ c up n. s c up n ∙ ap (λ (j : ℕ). into c up n (h .before) (child m b r) j) at;
+            place-is = omega (arith, s, at, len-append (h .before) (child m b none));
           }
 
-  pub looking-found : (i : ℕ) → word w i DELTA ≡ phi → Looking i → Chosen i
-  unfolding firstWith into
-  looking-found i z h = go (h .rest) (h .part) (h .there) (h .whole) (h .goes)
+  pub looking-found : (i : ℕ) → (i ≡ NONE → ⊥) → ((m : Node Pos) → Held K w m i → test m ≡ true) → Looking i → Chosen K w first ks (firstThat test ks) i
+  unfolding firstThat
+  looking-found i some passes h = go (h .rest) (h .part) (h .whole) (h .place-is)
     where
-      go : (r : Children Pos) → Part K w r i NONE → UnsolvedAt r (firstWith phi r) → append (h .before) r ≡ ks
-          → ((c : Counts) (up : List (Ancestor Pos)) (n : Node Pos) → into c up n none ks (firstWith phi ks) ≡ into c up n (h .before) r (firstWith phi r)) → Chosen i
-      go none p o t s = absurd o
-      go (child m b r) p o t s =
-          let e : eqb (m .delta) phi ≡ true = eq-eqb (m .delta) phi (sym (p .0 .delta-is) ∙ z) in
-          let at : firstWith phi (child m b r) ≡ 0 = rw (e, firstWith) in
-          record {
-            before = h .before;
-            node = m;
-            below = b;
-            after = r;
-            passed = h .passed;
-            part = p;
-            whole = t;
-            goes = λ c up n. s c up n ∙ ap (λ (j : ℕ). into c up n (h .before) (child m b r) j) at;
-          }
+      go : (r : Children Pos) → Part K w r i NONE → append (h .before) r ≡ ks → firstThat test ks ≡ len (h .before) + firstThat test r → Chosen K w first ks (firstThat test ks) i
+      go none p t s = absurd (some p)
+      go (child m b r) p t s =
+          let at : firstThat test (child m b r) ≡ 0 = rw (passes m (p .0), firstThat) in
+          record { before = h .before; node = m; below = b; after = r; passed = h .passed; part = p; whole = t; place-is = omega (arith, s, at) }
