@@ -11,7 +11,8 @@ use Rattle.machine.specs.Tree.{solved, proofOf, disproofOf}
 use Rattle.machine.specs.Machine as machine
 use Rattle.machine.specs.Place.{pool-max}
 use Rattle.machine.specs.Rounds.{StateOk}
-use Rattle.plain.specs.Plain.{gameOf, searchOf}
+use Rattle.machine.specs.Resume.{MoreBudget, cause-one}
+use Rattle.plain.specs.Plain.{gameOf, policyOf, searchOf}
 use Rattle.plain.specs.Laws.{root-mine}
 use Rattle.prove.specs.Numbers.{verdict}
 use Rattle.words.specs.Packed.{view}
@@ -19,30 +20,16 @@ use Rattle.words.specs.Words.{PHI, DELTA, word, capacity}
 use Rattle.words.specs.Trees.{Held}
 use Rattle.prover.specs.Stands.{Stands}
 use Rattle.pn.specs.Ticks.{Ticks}
-use Rattle.machine.specs.Resume.{MoreBudget, cause-one}
 use Rattle.pn.specs.Courses.{Leads, Ends, Spent, leads-again}
 use Rattle.pn.specs.Root.{root-place, root-held}
+use Rattle.pn.specs.Results.{machineSettings, resultOf}
 use Rattle.pn.specs.declared.Settings.{Settings}
 use Rattle.pn.specs.declared.Running.{Running}
 use Rattle.pn.specs.declared.SearchResult.{SearchResult}
 
--- the machine's settings, with the pool's capacity in nodes
-abbrev pub machineSettings : List ℕ → Settings → machine.Settings
-machineSettings w s = record { pool = capacity w; limit = s .limit; budget = s .budget; interval = s .interval }
-
--- the nine fields as the machine has them
-abbrev pub resultOf : SearchResult → machine.Result
-resultOf r = record {
-  verdict = verdict (r .verdict);
-  proof = r .proof;
-  disproof = r .disproof;
-  allocated = r .allocated;
-  freed = r .freed;
-  proved = r .proved;
-  disproved = r .disproved;
-  expanded = r .expanded;
-  cause = r .cause;
-}
+-- the policy of the settings, for a search of p
+abbrev pub policyFor : (s : Settings) (p : Position) → machine.Policy (gameOf (s .rule) p)
+policyFor s p = policyOf (s .rule) (p .side)
 
 -- nine fields that are alike
 abbrev fields : machine.Verdict → (proof disproof allocated freed proved disproved expanded cause : ℕ) → machine.Result
@@ -68,10 +55,10 @@ pub record Going (p : Position) (s : Settings) (w path ps : List ℕ) (x : Runni
   pub few : count 0 (p .cells) ≤ 81
   pub allocated-most : at .counts .allocated ≤ 1 + 81 * at .counts .expanded
   pub onward : x .stop ≡ false
-      → Leads (gameOf (s .rule) p) (machine.standard (gameOf (s .rule) p)) (machineSettings w s) p at × Ticks (s .interval) (at .counts .expanded) (x .tick)
-  pub ended : x .stop ≡ true → Ends (gameOf (s .rule) p) (machine.standard (gameOf (s .rule) p)) (machineSettings w s) p at (x .cause)
+      → Leads (gameOf (s .rule) p) (policyFor s p) (machineSettings w s) p at × Ticks (s .interval) (at .counts .expanded) (x .tick)
+  pub ended : x .stop ≡ true → Ends (gameOf (s .rule) p) (policyFor s p) (machineSettings w s) p at (x .cause)
   pub spent : x .stop ≡ true → x .cause ≡ 1
-      → Spent (gameOf (s .rule) p) (machine.standard (gameOf (s .rule) p)) (machineSettings w s) p at × Ticks (s .interval) (at .counts .expanded) (x .tick)
+      → Spent (gameOf (s .rule) p) (policyFor s p) (machineSettings w s) p at × Ticks (s .interval) (at .counts .expanded) (x .tick)
 
 -- the same settings with another budget, and a search that takes up again
 abbrev pub withBudget : Settings → ℕ → Settings
@@ -116,7 +103,7 @@ module _ (p : Position) (s : Settings) (w path ps : List ℕ) (x : Running) (g :
         ok = g .ok;
         few = g .few;
         allocated-most = g .allocated-most;
-        onward = λ q. (leads-again (gameOf (s .rule) p) (machine.standard (gameOf (s .rule) p)) (machineSettings w s) (machineSettings w (withBudget s b)) p (g .at) m (h .0), h .1);
+        onward = λ q. (leads-again (gameOf (s .rule) p) (policyFor s p) (machineSettings w s) (machineSettings w (withBudget s b)) p (g .at) m (h .0), h .1);
         ended = λ q. absurd (true≢false (sym q));
         spent = λ q. absurd (true≢false (sym q));
       }

@@ -1,6 +1,7 @@
 pub mod Ticks
 pub mod Courses
 pub mod Root
+pub mod Results
 pub mod Going
 pub mod Ticked
 pub mod Beginning

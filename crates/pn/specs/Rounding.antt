@@ -14,19 +14,21 @@ use Rattle.rules.specs.LegalMoves.{in-legal, moves-few}
 use Rattle.machine.specs.Game.{Game}
 use Rattle.machine.specs.Tree.{Node, Children, solved}
 use Rattle.machine.specs.Machine as machine
+use Rattle.machine.specs.Value.{Lawful}
 use Rattle.machine.specs.Numbers.{OpenLeaf, leaf-of}
+use Rattle.machine.specs.Place.{Sane}
 use Rattle.machine.specs.Descent.{Found}
-use Rattle.machine.specs.Rounds.{StateOk, found-leaf, leaf-state, round-ok}
+use Rattle.machine.specs.Rounds.{StateOk, children-ok, found-leaf, leaf-state, round-ok}
 use Rattle.machine.specs.Climb.{climb-stay, climb-root, climb-next}
-use Rattle.machine.specs.Standard.{standard-sane}
 use Rattle.plain.specs.Plain.{game, gameOf}
-use Rattle.plain.specs.Laws.{lawful}
+use Rattle.plain.specs.Laws.{lawful, policy-sane}
 use Rattle.words.specs.Words.{capacity}
 use Rattle.prover.specs.declared.Prover.{Prover}
 use Rattle.prover.specs.Stands.{Stands, Searching}
 use Rattle.pn.specs.Ticks.{Ticks, tick-some, tick-due, tick-again, tick-not-due, tick-next}
 use Rattle.pn.specs.Courses.{Leads, Ends, Spent, ends-solved, ends-spent, ends-short, ends-over, leads-on}
-use Rattle.pn.specs.Going.{Going, Ranges, machineSettings}
+use Rattle.pn.specs.Results.{withPool, machineSettings}
+use Rattle.pn.specs.Going.{Going, Ranges, policyFor}
 use Rattle.pn.specs.Ticked.{Ticked}
 use Rattle.pn.specs.declared.Settings.{Settings}
 use Rattle.pn.specs.declared.Running.{Running}
@@ -70,180 +72,189 @@ climb-allocated G (a ∷ up) c n ks = go (machine.unchanged G n ks) refl (λ d m
     go true e h = ap (λ t. t .counts .allocated) (climb-stay G c n ks (a ∷ up) e)
     go false e h = ap (λ t. t .counts .allocated) (climb-next G c n ks a up e) ∙ h _ _ _
 
-abbrev withPool : ℕ → Settings → machine.Settings
-withPool n s = record { pool = n; limit = s .limit; budget = s .budget; interval = s .interval }
+-- a search of p with settings s in words w
+module _ (p : Position) (s : Settings) (w : List ℕ) where
+  abbrev G : Game
+  G = gameOf (s .rule) p
 
--- a state that ends the search of p, or leads on, in words of the same length
-module _ (p : Position) (s : Settings) (w w′ path′ ps′ : List ℕ) (long : length w′ ≡ length w) (few : count 0 (p .cells) ≤ 81) (y : Running) (t : machine.State Position)
-    (stands : Stands (s .rule) (p .side) w′ path′ ps′ (y .prover) t) (ok : StateOk (gameOf (s .rule) p) p (capacity w) t) (most : t .counts .allocated ≤ 1 + 81 * t .counts .expanded) where
-  same : capacity w′ ≡ capacity w
-  same = ap (λ n. n / 5) long
+  abbrev P : machine.Policy G
+  P = policyFor s p
 
-  ok′ : StateOk (gameOf (s .rule) p) p (capacity w′) t
-  ok′ = subst (λ n. StateOk (gameOf (s .rule) p) p n t) (sym same) ok
+  abbrev S : machine.Settings
+  S = machineSettings w s
 
-  pub goes-no-further : y .stop ≡ true → Ends (gameOf (s .rule) p) (machine.standard (gameOf (s .rule) p)) (machineSettings w s) p t (y .cause)
-      → (y .cause ≡ 1 → Spent (gameOf (s .rule) p) (machine.standard (gameOf (s .rule) p)) (machineSettings w s) p t × Ticks (s .interval) (t .counts .expanded) (y .tick))
-      → Going p s w′ path′ ps′ y
-  goes-no-further e ends spent = record {
-    at = t;
-    stands = stands;
-    ok = ok′;
-    few = few;
-    allocated-most = most;
-    onward = λ q. absurd (true≢false (sym e ∙ q));
-    ended = λ q. subst (λ n. Ends (gameOf (s .rule) p) (machine.standard (gameOf (s .rule) p)) (withPool n s) p t (y .cause)) (sym same) ends;
-    spent = λ q c. (subst (λ n. Spent (gameOf (s .rule) p) (machine.standard (gameOf (s .rule) p)) (withPool n s) p t) (sym same) (spent c .0), spent c .1);
-  }
+  L : Lawful G
+  L = lawful (s .rule) (p .side)
 
-  pub goes-on : y .stop ≡ false → Leads (gameOf (s .rule) p) (machine.standard (gameOf (s .rule) p)) (machineSettings w s) p t
-      → Ticks (s .interval) (t .counts .expanded) (y .tick) → Going p s w′ path′ ps′ y
-  goes-on e leads ticks = record {
-    at = t;
-    stands = stands;
-    ok = ok′;
-    few = few;
-    allocated-most = most;
-    onward = λ q. (subst (λ n. Leads (gameOf (s .rule) p) (machine.standard (gameOf (s .rule) p)) (withPool n s) p t) (sym same) leads, ticks);
-    ended = λ q. absurd (true≢false (sym q ∙ e));
-    spent = λ q. absurd (true≢false (sym q ∙ e));
-  }
+  Q : Sane G P
+  Q = policy-sane (s .rule) (p .side)
 
-module _ (p : Position) (s : Settings) (w path ps : List ℕ) (x : Running) (g : Going p s w path ps x) (ranges : Ranges w s) (going : x .stop ≡ false) where
-  -- what descending asks for
-  unfoldable pub to-search : Searching w path ps (x .prover)
-  to-search = record { rule = s .rule; side = p .side; start = p; at = g .at; stands = g .stands; ok = g .ok; few = g .few }
+  -- a state that ends the search of p, or leads on, in words of the same length
+  module _ (w′ path′ ps′ : List ℕ) (long : length w′ ≡ length w) (few : count 0 (p .cells) ≤ 81) (y : Running) (t : machine.State Position)
+      (stands : Stands (s .rule) (p .side) w′ path′ ps′ (y .prover) t) (ok : StateOk G p (capacity w) t) (most : t .counts .allocated ≤ 1 + 81 * t .counts .expanded) where
+    same : capacity w′ ≡ capacity w
+    same = ap (λ n. n / 5) long
 
-  leads : Leads (gameOf (s .rule) p) (machine.standard (gameOf (s .rule) p)) (machineSettings w s) p (g .at)
-  leads = g .onward going .0
+    ok′ : StateOk G p (capacity w′) t
+    ok′ = subst (λ n. StateOk G p n t) (sym same) ok
 
-  ticks : Ticks (s .interval) (g .at .counts .expanded) (x .tick)
-  ticks = g .onward going .1
+    pub goes-no-further : y .stop ≡ true → Ends G P S p t (y .cause)
+        → (y .cause ≡ 1 → Spent G P S p t × Ticks (s .interval) (t .counts .expanded) (y .tick))
+        → Going p s w′ path′ ps′ y
+    goes-no-further e ends spent = record {
+      at = t;
+      stands = stands;
+      ok = ok′;
+      few = few;
+      allocated-most = most;
+      onward = λ q. absurd (true≢false (sym e ∙ q));
+      ended = λ q. subst (λ n. Ends G P (withPool n s) p t (y .cause)) (sym same) ends;
+      spent = λ q c. (subst (λ n. Spent G P (withPool n s) p t) (sym same) (spent c .0), spent c .1);
+    }
 
-  -- step 1, and before it the root solved
-  pub stop-solved : solved (machine.root (g .at)) ≡ true → (y : Running) → y .prover ≡ x .prover → y .stop ≡ true → y .cause ≡ 0 → Going p s w path ps y
-  stop-solved e y ey es ec =
-      goes-no-further p s w w path ps refl (g .few) y (g .at) (subst (λ z. Stands (s .rule) (p .side) w path ps z (g .at)) (sym ey) (g .stands)) (g .ok) (g .allocated-most) es
-      (rw ec (ends-solved (gameOf (s .rule) p) (machine.standard (gameOf (s .rule) p)) (machineSettings w s) p (g .at) leads e)) (λ c. absurd (omega arith))
+    pub goes-on : y .stop ≡ false → Leads G P S p t
+        → Ticks (s .interval) (t .counts .expanded) (y .tick) → Going p s w′ path′ ps′ y
+    goes-on e leads ticks = record {
+      at = t;
+      stands = stands;
+      ok = ok′;
+      few = few;
+      allocated-most = most;
+      onward = λ q. (subst (λ n. Leads G P (withPool n s) p t) (sym same) leads, ticks);
+      ended = λ q. absurd (true≢false (sym q ∙ e));
+      spent = λ q. absurd (true≢false (sym q ∙ e));
+    }
 
-  pub stop-spent : x .prover .expanded ≡ s .budget → solved (machine.root (g .at)) ≡ false → (y : Running) → y .prover ≡ x .prover → y .tick ≡ x .tick → y .stop ≡ true → y .cause ≡ 1
-      → Going p s w path ps y
-  stop-spent e u y ey et es ec =
-      let h = ends-spent (gameOf (s .rule) p) (machine.standard (gameOf (s .rule) p)) (machineSettings w s) p (g .at) leads (sym (g .stands .expanded-is) ∙ e) u in
-      goes-no-further p s w w path ps refl (g .few) y (g .at) (subst (λ z. Stands (s .rule) (p .side) w path ps z (g .at)) (sym ey) (g .stands)) (g .ok) (g .allocated-most) es
-      (rw ec (ap (machine.result (gameOf (s .rule) p)) (h .here))) (λ c. (h, subst (λ k. Ticks (s .interval) (g .at .counts .expanded) k) (sym et) ticks))
+  -- a round from a search that goes on
+  module _ (path ps : List ℕ) (x : Running) (g : Going p s w path ps x) (ranges : Ranges w s) (going : x .stop ≡ false) where
+    -- what descending asks for
+    unfoldable pub to-search : Searching w path ps (x .prover)
+    to-search = record { rule = s .rule; side = p .side; start = p; at = g .at; stands = g .stands; ok = g .ok; few = g .few }
 
-  module _ (unsolved : solved (machine.root (g .at)) ≡ false) (more : x .prover .expanded ≡ s .budget → ⊥) where
-    more′ : g .at .counts .expanded ≡ s .budget → ⊥
-    more′ e = more (g .stands .expanded-is ∙ e)
+    leads : Leads G P S p (g .at)
+    leads = g .onward going .0
 
-    -- the leaf that step 2 comes to
-    pub leaf : Found (gameOf (s .rule) p) p (g .at) (machine.toLeaf (gameOf (s .rule) p) (machine.standard (gameOf (s .rule) p)) (g .at))
-    leaf = found-leaf (gameOf (s .rule) p) (lawful (s .rule) (p .side)) (machine.standard (gameOf (s .rule) p)) (standard-sane (gameOf (s .rule) p) (lawful (s .rule) (p .side))) p
-        (machineSettings w s) (ranges .few) (g .at) (g .ok) unsolved
+    ticks : Ticks (s .interval) (g .at .counts .expanded) (x .tick)
+    ticks = g .onward going .1
 
-    pub leaf-ok : StateOk (gameOf (s .rule) p) p (capacity w) (machine.toLeaf (gameOf (s .rule) p) (machine.standard (gameOf (s .rule) p)) (g .at))
-    leaf-ok = leaf-state (gameOf (s .rule) p) (lawful (s .rule) (p .side)) (machine.standard (gameOf (s .rule) p)) (standard-sane (gameOf (s .rule) p) (lawful (s .rule) (p .side))) p
-        (machineSettings w s) (ranges .few) (g .at) (g .ok) unsolved
+    -- step 1, and before it the root solved
+    pub stop-solved : solved (machine.root (g .at)) ≡ true → (y : Running) → y .prover ≡ x .prover → y .stop ≡ true → y .cause ≡ 0 → Going p s w path ps y
+    stop-solved e y ey es ec =
+        goes-no-further w path ps refl (g .few) y (g .at) (subst (λ z. Stands (s .rule) (p .side) w path ps z (g .at)) (sym ey) (g .stands)) (g .ok) (g .allocated-most) es
+        (rw ec (ends-solved G P S p (g .at) leads e)) (λ c. absurd (omega arith))
 
-    pub leaf-open : OpenLeaf (gameOf (s .rule) p) (machine.toLeaf (gameOf (s .rule) p) (machine.standard (gameOf (s .rule) p)) (g .at) .node)
-        (machine.toLeaf (gameOf (s .rule) p) (machine.standard (gameOf (s .rule) p)) (g .at) .below)
-    leaf-open = leaf-of (gameOf (s .rule) p) _ _ (leaf .rest .ok) (leaf .rest .phi-pos) (leaf .rest .delta-pos) (leaf .shut)
+    pub stop-spent : x .prover .expanded ≡ s .budget → solved (machine.root (g .at)) ≡ false → (y : Running) → y .prover ≡ x .prover → y .tick ≡ x .tick → y .stop ≡ true → y .cause ≡ 1
+        → Going p s w path ps y
+    stop-spent e u y ey et es ec =
+        let h = ends-spent G P S p (g .at) leads (sym (g .stands .expanded-is) ∙ e) u in
+        goes-no-further w path ps refl (g .few) y (g .at) (subst (λ z. Stands (s .rule) (p .side) w path ps z (g .at)) (sym ey) (g .stands)) (g .ok) (g .allocated-most) es
+        (rw ec (ap (machine.result G) (h .here))) (λ c. (h, subst (λ k. Ticks (s .interval) (g .at .counts .expanded) k) (sym et) ticks))
 
-    pub leaf-playing : gameState (machine.toLeaf (gameOf (s .rule) p) (machine.standard (gameOf (s .rule) p)) (g .at) .node .pos) ≡ 0
-    leaf-playing = legal _ _ (in-legal _ _ (leaf-open .legal)) .unfinished
+    module _ (unsolved : solved (machine.root (g .at)) ≡ false) (more : x .prover .expanded ≡ s .budget → ⊥) where
+      more′ : g .at .counts .expanded ≡ s .budget → ⊥
+      more′ e = more (g .stands .expanded-is ∙ e)
 
-    -- step 3: short of nodes at the leaf
-    pub stop-short : (path′ ps′ : List ℕ) (y : Running)
-        → Stands (s .rule) (p .side) w path′ ps′ (y .prover) (machine.toLeaf (gameOf (s .rule) p) (machine.standard (gameOf (s .rule) p)) (g .at))
-        → machine.short (gameOf (s .rule) p) (machine.standard (gameOf (s .rule) p)) (machineSettings w s) (machine.toLeaf (gameOf (s .rule) p) (machine.standard (gameOf (s .rule) p)) (g .at)) ≡ true
-        → y .stop ≡ true → y .cause ≡ 2 → Going p s w path′ ps′ y
-    stop-short path′ ps′ y st t es ec =
-        goes-no-further p s w w path′ ps′ refl (g .few) y _ st leaf-ok (rw (leaf .counts-same) (g .allocated-most)) es
-        (rw ec (ends-short (gameOf (s .rule) p) (machine.standard (gameOf (s .rule) p)) (machineSettings w s) p (g .at) leads more′ unsolved t)) (λ c. absurd (omega arith))
+      -- the leaf that step 2 comes to
+      pub leaf : Found G p (g .at) (machine.toLeaf G P (g .at))
+      leaf = found-leaf G L P Q p S (ranges .few) (g .at) (g .ok) unsolved
 
-    module _ (enough : machine.short (gameOf (s .rule) p) (machine.standard (gameOf (s .rule) p)) (machineSettings w s)
-        (machine.toLeaf (gameOf (s .rule) p) (machine.standard (gameOf (s .rule) p)) (g .at)) ≡ false) where
-      abbrev after : machine.State Position
-      after = machine.round (gameOf (s .rule) p) (machine.standard (gameOf (s .rule) p)) (g .at)
+      pub leaf-ok : StateOk G p (capacity w) (machine.toLeaf G P (g .at))
+      leaf-ok = leaf-state G L P Q p S (ranges .few) (g .at) (g .ok) unsolved
 
-      rounded : StateOk (gameOf (s .rule) p) p (capacity w) after × (after .counts .expanded ≡ suc (g .at .counts .expanded))
-      rounded = round-ok (gameOf (s .rule) p) (lawful (s .rule) (p .side)) (machine.standard (gameOf (s .rule) p)) (standard-sane (gameOf (s .rule) p) (lawful (s .rule) (p .side))) p
-          (machineSettings w s) (ranges .few) (g .at) (g .ok) unsolved enough
+      pub leaf-open : OpenLeaf G (machine.toLeaf G P (g .at) .node)
+          (machine.toLeaf G P (g .at) .below)
+      leaf-open = leaf-of G _ _ (leaf .rest .ok) (leaf .rest .phi-pos) (leaf .rest .delta-pos) (leaf .shut)
 
-      -- an expansion makes at most 81 nodes
-      rounded-most : after .counts .allocated ≤ 1 + 81 * after .counts .expanded
-      unfolding machine.round machine.expand machine.standard
-      rounded-most =
-          let t = machine.toLeaf (gameOf (s .rule) p) (machine.standard (gameOf (s .rule) p)) (g .at) in
-          let u = machine.expand (gameOf (s .rule) p) t in
-          omega (
-            arith,
-            g .allocated-most,
-            rounded .1,
-            climb-allocated (gameOf (s .rule) p) (u .above) (u .counts) (u .node) (u .below),
-            ap (λ c. c .allocated) (leaf .counts-same),
-            standard-sane (gameOf (s .rule) p) (lawful (s .rule) (p .side)) .covers (t .node .pos),
-            moves-few (t .node .pos),
-          )
+      pub leaf-playing : gameState (machine.toLeaf G P (g .at) .node .pos) ≡ 0
+      leaf-playing = legal _ _ (in-legal _ _ (leaf-open .legal)) .unfinished
 
-      -- what step 6 asks for
-      pub tick-left : 0 < x .tick
-      tick-left = tick-some (s .interval) (g .at .counts .expanded) (x .tick) (ranges .interval-some) ticks
+      -- step 3: short of nodes at the leaf
+      pub stop-short : (path′ ps′ : List ℕ) (y : Running)
+          → Stands (s .rule) (p .side) w path′ ps′ (y .prover) (machine.toLeaf G P (g .at))
+          → machine.short G P S (machine.toLeaf G P (g .at)) ≡ true
+          → y .stop ≡ true → y .cause ≡ 2 → Going p s w path′ ps′ y
+      stop-short path′ ps′ y st t es ec =
+          goes-no-further w path′ ps′ refl (g .few) y _ st leaf-ok (rw (leaf .counts-same) (g .allocated-most)) es
+          (rw ec (ends-short G P S p (g .at) leads more′ unsolved t)) (λ c. absurd (omega arith))
 
-      pub freed-fewer : (w′ path′ ps′ : List ℕ) (next : Prover) → Stands (s .rule) (p .side) w′ path′ ps′ next after → next .pool .freed ≤ next .pool .allocated
-      freed-fewer w′ path′ ps′ next st = omega (arith, rounded .0 .counts-fit .live, st .tree .allocated-is, st .tree .freed-is)
+      module _ (enough : machine.short G P S
+          (machine.toLeaf G P (g .at)) ≡ false) where
+        abbrev after : machine.State Position
+        after = machine.round G P (g .at)
 
-      -- step 6, from what the counter says
-      module _ (w′ path′ ps′ : List ℕ) (next : Prover) (y : Running) (long : length w′ ≡ length w) (st : Stands (s .rule) (p .side) w′ path′ ps′ next after)
-          (ticked : Ticked next (x .tick) s y) where
-        stands′ : Stands (s .rule) (p .side) w′ path′ ps′ (y .prover) after
-        stands′ = subst (λ z. Stands (s .rule) (p .side) w′ path′ ps′ z after) (sym (ticked .prover-is)) st
+        rounded : StateOk G p (capacity w) after × (after .counts .expanded ≡ suc (g .at .counts .expanded))
+        rounded = round-ok G L P Q p S (ranges .few) (g .at) (g .ok) unsolved enough
 
-        expanded-more : y .prover .expanded ≡ suc (x .prover .expanded)
-        expanded-more = stands′ .expanded-is ∙ rounded .1 ∙ ap suc (sym (g .stands .expanded-is))
+        -- an expansion makes at most 81 nodes
+        rounded-most : after .counts .allocated ≤ 1 + 81 * after .counts .expanded
+        unfolding machine.round machine.expand
+        rounded-most =
+            let t = machine.toLeaf G P (g .at) in
+            let u = machine.expand G t in
+            omega (
+              arith,
+              g .allocated-most,
+              rounded .1,
+              climb-allocated G (u .above) (u .counts) (u .node) (u .below),
+              ap (λ c. c .allocated) (leaf .counts-same),
+              children-ok G L (t .node .pos) .most,
+              moves-few (t .node .pos),
+            )
 
-        live-is : machine.live (after .counts) ≡ next .pool .allocated - next .pool .freed
-        unfolding machine.live
-        live-is = rw (st .tree .allocated-is, st .tree .freed-is)
+        -- what step 6 asks for
+        pub tick-left : 0 < x .tick
+        tick-left = tick-some (s .interval) (g .at .counts .expanded) (x .tick) (ranges .interval-some) ticks
 
-        due : (b : Bool) → eqb (suc (g .at .counts .expanded) % s .interval) 0 ≡ b → eqb (after .counts .expanded % s .interval) 0 ≡ b
-        due b e = ap (λ n. eqb (n % s .interval) 0) (rounded .1) ∙ e
+        pub freed-fewer : (w′ path′ ps′ : List ℕ) (next : Prover) → Stands (s .rule) (p .side) w′ path′ ps′ next after → next .pool .freed ≤ next .pool .allocated
+        freed-fewer w′ path′ ps′ next st = omega (arith, rounded .0 .counts-fit .live, st .tree .allocated-is, st .tree .freed-is)
 
-        on : (x .tick ≡ 1 → ⊥) → Going p s w′ path′ ps′ y
-        unfolding machine.overLimit
-        on n =
-            goes-on p s w w′ path′ ps′ long (g .few) y after stands′ (rounded .0) rounded-most (ticked .on n .0)
-            (leads-on (gameOf (s .rule) p) (machine.standard (gameOf (s .rule) p)) (machineSettings w s) p (g .at) leads more′ unsolved enough (rounded .1)
-            (rw (due false (tick-not-due (s .interval) (g .at .counts .expanded) (x .tick) (ranges .interval-some) ticks n))))
-            (subst (λ k. Ticks (s .interval) k (y .tick)) (sym (rounded .1))
-            (subst (λ k. Ticks (s .interval) (suc (g .at .counts .expanded)) k) (sym (ticked .on n .1)) (tick-next (s .interval) (g .at .counts .expanded) (x .tick) (ranges .interval-some) ticks n)))
+        -- step 6, from what the counter says
+        module _ (w′ path′ ps′ : List ℕ) (next : Prover) (y : Running) (long : length w′ ≡ length w) (st : Stands (s .rule) (p .side) w′ path′ ps′ next after)
+            (ticked : Ticked next (x .tick) s y) where
+          stands′ : Stands (s .rule) (p .side) w′ path′ ps′ (y .prover) after
+          stands′ = subst (λ z. Stands (s .rule) (p .side) w′ path′ ps′ z after) (sym (ticked .prover-is)) st
 
-        under : x .tick ≡ 1 → next .pool .allocated - next .pool .freed ≤ s .limit → Going p s w′ path′ ps′ y
-        unfolding machine.overLimit
-        under e l =
-            goes-on p s w w′ path′ ps′ long (g .few) y after stands′ (rounded .0) rounded-most (ticked .under e l .0)
-            (leads-on (gameOf (s .rule) p) (machine.standard (gameOf (s .rule) p)) (machineSettings w s) p (g .at) leads more′ unsolved enough (rounded .1)
-            (rw (live-is, le-ltb (s .limit) (next .pool .allocated - next .pool .freed) l) (and-false (eqb (after .counts .expanded % s .interval) 0))))
-            (subst (λ k. Ticks (s .interval) k (y .tick)) (sym (rounded .1))
-            (subst (λ k. Ticks (s .interval) (suc (g .at .counts .expanded)) k) (sym (ticked .under e l .1)) (tick-again (s .interval) (g .at .counts .expanded) (x .tick) (ranges .interval-some) ticks e)))
+          pub more-expanded : y .prover .expanded ≡ suc (x .prover .expanded)
+          more-expanded = stands′ .expanded-is ∙ rounded .1 ∙ ap suc (sym (g .stands .expanded-is))
 
-        over : x .tick ≡ 1 → s .limit < next .pool .allocated - next .pool .freed → Going p s w′ path′ ps′ y
-        unfolding machine.overLimit
-        over e l =
-            goes-no-further p s w w′ path′ ps′ long (g .few) y after stands′ (rounded .0) rounded-most (ticked .over e l .0)
-            (rw (ticked .over e l .1)
-            (ends-over (gameOf (s .rule) p) (machine.standard (gameOf (s .rule) p)) (machineSettings w s) p (g .at) leads more′ unsolved enough
-            (rw (due true (tick-due (s .interval) (g .at .counts .expanded) (x .tick) (ranges .interval-some) ticks e), live-is, lt-ltb (s .limit) (next .pool .allocated - next .pool .freed) l))))
-            (λ c. absurd (omega (arith, ticked .over e l .1)))
+          live-is : machine.live (after .counts) ≡ next .pool .allocated - next .pool .freed
+          unfolding machine.live
+          live-is = rw (st .tree .allocated-is, st .tree .freed-is)
 
-        pub goes-after : Going p s w′ path′ ps′ y
-        goes-after = go (ℕ-discrete (x .tick) 1) (decLt (s .limit) (next .pool .allocated - next .pool .freed))
-          where
-            go : Dec (x .tick ≡ 1) → Dec (s .limit < next .pool .allocated - next .pool .freed) → Going p s w′ path′ ps′ y
-            go (no n) d = on n
-            go (yes e) (yes l) = over e l
-            go (yes e) (no n) = under e (omega (arith, n))
+          due : (b : Bool) → eqb (suc (g .at .counts .expanded) % s .interval) 0 ≡ b → eqb (after .counts .expanded % s .interval) 0 ≡ b
+          due b e = ap (λ n. eqb (n % s .interval) 0) (rounded .1) ∙ e
 
-        pub more-expanded : y .prover .expanded ≡ suc (x .prover .expanded)
-        more-expanded = expanded-more
+          on : (x .tick ≡ 1 → ⊥) → Going p s w′ path′ ps′ y
+          unfolding machine.overLimit
+          on n =
+              goes-on w′ path′ ps′ long (g .few) y after stands′ (rounded .0) rounded-most (ticked .on n .0)
+              (leads-on G P S p (g .at) leads more′ unsolved enough (rounded .1)
+              (rw (due false (tick-not-due (s .interval) (g .at .counts .expanded) (x .tick) (ranges .interval-some) ticks n))))
+              (subst (λ k. Ticks (s .interval) k (y .tick)) (sym (rounded .1))
+              (subst (λ k. Ticks (s .interval) (suc (g .at .counts .expanded)) k) (sym (ticked .on n .1)) (tick-next (s .interval) (g .at .counts .expanded) (x .tick) (ranges .interval-some) ticks n)))
+
+          under : x .tick ≡ 1 → next .pool .allocated - next .pool .freed ≤ s .limit → Going p s w′ path′ ps′ y
+          unfolding machine.overLimit
+          under e l =
+              goes-on w′ path′ ps′ long (g .few) y after stands′ (rounded .0) rounded-most (ticked .under e l .0)
+              (leads-on G P S p (g .at) leads more′ unsolved enough (rounded .1)
+              (rw (live-is, le-ltb (s .limit) (next .pool .allocated - next .pool .freed) l) (and-false (eqb (after .counts .expanded % s .interval) 0))))
+              (subst (λ k. Ticks (s .interval) k (y .tick)) (sym (rounded .1))
+              (subst (λ k. Ticks (s .interval) (suc (g .at .counts .expanded)) k) (sym (ticked .under e l .1)) (tick-again (s .interval) (g .at .counts .expanded) (x .tick) (ranges .interval-some) ticks e)))
+
+          over : x .tick ≡ 1 → s .limit < next .pool .allocated - next .pool .freed → Going p s w′ path′ ps′ y
+          unfolding machine.overLimit
+          over e l =
+              goes-no-further w′ path′ ps′ long (g .few) y after stands′ (rounded .0) rounded-most (ticked .over e l .0)
+              (rw (ticked .over e l .1)
+              (ends-over G P S p (g .at) leads more′ unsolved enough
+              (rw (due true (tick-due (s .interval) (g .at .counts .expanded) (x .tick) (ranges .interval-some) ticks e), live-is, lt-ltb (s .limit) (next .pool .allocated - next .pool .freed) l))))
+              (λ c. absurd (omega (arith, ticked .over e l .1)))
+
+          pub goes-after : Going p s w′ path′ ps′ y
+          goes-after = go (ℕ-discrete (x .tick) 1) (decLt (s .limit) (next .pool .allocated - next .pool .freed))
+            where
+              go : Dec (x .tick ≡ 1) → Dec (s .limit < next .pool .allocated - next .pool .freed) → Going p s w′ path′ ps′ y
+              go (no n) d = on n
+              go (yes e) (yes l) = over e l
+              go (yes e) (no n) = under e (omega (arith, n))

@@ -15,7 +15,8 @@ use Rattle.words.specs.Words.{capacity, Beyond, beyond-trans}
 use Rattle.words.specs.Freeing.{plies}
 use Rattle.prover.specs.declared.Prover.{Prover}
 use Rattle.pn.specs.Ticks.{tick-start}
-use Rattle.pn.specs.Going.{Going, Ranges, machineSettings, resultOf}
+use Rattle.pn.specs.Results.{withPool, machineSettings, resultOf}
+use Rattle.pn.specs.Going.{Going, Ranges, policyFor}
 use Rattle.pn.specs.Beginning.{Startable, Begun}
 use Rattle.pn.specs.Stepping.{Steppable, Stepped, left}
 use Rattle.pn.specs.declared.Settings.{Settings}
@@ -69,7 +70,7 @@ to-loop p s w v path ps y root a r er b = (
       ok = start-ok (gameOf (s .rule) p) (lawful (s .rule) (p .side)) p (capacity v) (omega (arith, r .some, b .long));
       few = left-most p a;
       allocated-most = omega arith;
-      onward = λ q. ((omega arith, ap (λ k. machine.run (gameOf (s .rule) p) (machine.standard (gameOf (s .rule) p)) (machineSettings v s) k (machine.start (gameOf (s .rule) p) p)) (whole (s .budget))), tick-start (s .interval));
+      onward = λ q. ((omega arith, ap (λ k. machine.run (gameOf (s .rule) p) (policyFor s p) (machineSettings v s) k (machine.start (gameOf (s .rule) p) p)) (whole (s .budget))), tick-start (s .interval));
       ended = λ q. absurd (true≢false (sym q));
       spent = λ q. absurd (true≢false (sym q));
     };
@@ -115,6 +116,6 @@ search-done p s w v u path₀ ps₀ path ps y x root r a ranges er b long each r
     let k = to-loop p s w v path₀ ps₀ y root a ranges er b in
     let here : Looping p s v u path ps x = subst (λ q. Looping q s v u path ps x) (k .1) (each (k .0)) in
     record {
-      result-is = result p ps (here .going) ∙ ap (λ n. searchOf (s .rule) (record { pool = n / 5; limit = s .limit; budget = s .budget; interval = s .interval }) p) (long ∙ b .long);
+      result-is = result p ps (here .going) ∙ ap (λ n. searchOf (s .rule) (withPool (n / 5) s) p) (long ∙ b .long);
       past = beyond-trans w v u (b .long) (b .past) (here .past);
     }

@@ -8,13 +8,15 @@ use lib.Dec.{eqb}
 use lib.ListN.{length, getD}
 use Rattle.rules.specs.Rules.{Position}
 use Rattle.rules.specs.Record.{sideBit}
+use Rattle.machine.specs.Game.{Game}
 use Rattle.machine.specs.Tree.{solved}
 use Rattle.machine.specs.Machine as machine
 use Rattle.plain.specs.Plain.{gameOf}
 use Rattle.words.specs.Words.{PHI, DELTA, word, capacity, Beyond}
 use Rattle.prover.specs.declared.Prover.{Prover}
 use Rattle.prover.specs.Stands.{Stands}
-use Rattle.pn.specs.Going.{Going, Ranges, machineSettings, solved-is}
+use Rattle.pn.specs.Results.{machineSettings}
+use Rattle.pn.specs.Going.{Going, Ranges, policyFor, solved-is}
 use Rattle.pn.specs.Ticked.{Ticked}
 use Rattle.pn.specs.Rounding.{goes-after, more-expanded, stop-solved, stop-spent, stop-short}
 use Rattle.pn.specs.declared.Settings.{Settings}
@@ -84,10 +86,18 @@ module _ {w path ps : List ℕ} {x : Running} {s : Settings} {root : ℕ} (g : S
   }
 
 module _ {w path ps : List ℕ} {x : Running} {s : Settings} {root : ℕ} (u : Unsolved w path ps x s root) where
+  abbrev G : Game
+  G = gameOf (s .rule) (u .from .start)
+
+  abbrev P : machine.Policy G
+  P = policyFor s (u .from .start)
+
+  abbrev S : machine.Settings
+  S = machineSettings w s
+
   pub stepped-short : (path′ ps′ : List ℕ) (r : Running)
-      → Stands (s .rule) (u .from .start .side) w path′ ps′ (r .prover) (machine.toLeaf (gameOf (s .rule) (u .from .start)) (machine.standard (gameOf (s .rule) (u .from .start))) (u .from .going .at))
-      → machine.short (gameOf (s .rule) (u .from .start)) (machine.standard (gameOf (s .rule) (u .from .start))) (machineSettings w s)
-      (machine.toLeaf (gameOf (s .rule) (u .from .start)) (machine.standard (gameOf (s .rule) (u .from .start))) (u .from .going .at)) ≡ true
+      → Stands (s .rule) (u .from .start .side) w path′ ps′ (r .prover) (machine.toLeaf G P (u .from .going .at))
+      → machine.short G P S (machine.toLeaf G P (u .from .going .at)) ≡ true
       → r .stop ≡ true → r .cause ≡ 2 → Stepped (u .from .start) s x w w path′ ps′ r
   stepped-short path′ ps′ r st t es ec = record {
     going = stop-short (u .from .start) s w path ps x (u .from .going) (u .from .ranges) (u .from .on) (u .unsolved) (u .more) path′ ps′ r st t es ec;
@@ -95,10 +105,9 @@ module _ {w path ps : List ℕ} {x : Running} {s : Settings} {root : ℕ} (u : U
     less = less-stopped x r s (u .from .on) es;
   }
 
-  pub stepped-on : machine.short (gameOf (s .rule) (u .from .start)) (machine.standard (gameOf (s .rule) (u .from .start))) (machineSettings w s)
-      (machine.toLeaf (gameOf (s .rule) (u .from .start)) (machine.standard (gameOf (s .rule) (u .from .start))) (u .from .going .at)) ≡ false
+  pub stepped-on : machine.short G P S (machine.toLeaf G P (u .from .going .at)) ≡ false
       → (w′ path′ ps′ : List ℕ) (next : Prover) (r : Running) → length w′ ≡ length w → Beyond w w′
-      → Stands (s .rule) (u .from .start .side) w′ path′ ps′ next (machine.round (gameOf (s .rule) (u .from .start)) (machine.standard (gameOf (s .rule) (u .from .start))) (u .from .going .at))
+      → Stands (s .rule) (u .from .start .side) w′ path′ ps′ next (machine.round G P (u .from .going .at))
       → Ticked next (x .tick) s r → Stepped (u .from .start) s x w w′ path′ ps′ r
   stepped-on enough w′ path′ ps′ next r long past st t =
       let p = u .from .start in

@@ -1,5 +1,5 @@
 -- What each step of a round asks for, from what stands after the one before. Rests on Rounding and the steps' contracts.
-use mathlib.Core.Path.{_≡_, ap, sym}
+use mathlib.Core.Path.{_≡_, ap, sym, _∙_}
 use mathlib.Core.Bool.{Bool, false}
 use mathlib.Core.List.{List}
 use Prim.Native.Nat.{ℕ, _-_, _≤_}
@@ -10,13 +10,12 @@ use lib.ListN.{length}
 use Rattle.rules.specs.Rules.{Position, legalMoves}
 use Rattle.rules.specs.Record.{sideBit}
 use Rattle.machine.specs.Tree.{size, solved}
-use Rattle.machine.specs.Standard.{standard-sane}
-use Rattle.machine.specs.Game.{sequences}
+use Rattle.machine.specs.Game.{Game, sequences}
 use Rattle.machine.specs.Machine as machine
 use Rattle.machine.specs.Descent.{depth-left}
 use Rattle.machine.specs.Rounds.{expand-ok, expand-counts}
 use Rattle.plain.specs.Plain.{gameOf}
-use Rattle.plain.specs.Laws.{lawful}
+use Rattle.plain.specs.Laws.{lawful, policy-sane, policy-needs}
 use Rattle.words.specs.Words.{capacity}
 use Rattle.words.specs.Steps.{line-root}
 use Rattle.prover.specs.declared.Prover.{Prover}
@@ -24,84 +23,88 @@ use Rattle.prover.specs.Stands.{Stands}
 use Rattle.expand.specs.Expandable.{Expandable, Expansion}
 use Rattle.expand.specs.declared.Expanded.{Expanded}
 use Rattle.climb.specs.Asks.{Climbable}
-use Rattle.pn.specs.Going.{Going, Ranges, machineSettings}
+use Rattle.pn.specs.Results.{machineSettings}
+use Rattle.pn.specs.Going.{Going, Ranges, policyFor}
 use Rattle.pn.specs.Rounding.{AtLeaf, leaf, leaf-ok, leaf-open, leaf-playing}
 use Rattle.pn.specs.declared.Settings.{Settings}
 use Rattle.pn.specs.declared.Running.{Running}
 
-module _ (p : Position) (s : Settings) (w path ps : List ℕ) (x : Running) (g : Going p s w path ps x) (ranges : Ranges w s) (going : x .stop ≡ false)
-    (unsolved : solved (machine.root (g .at)) ≡ false) (more : x .prover .expanded ≡ s .budget → ⊥) (path′ ps′ : List ℕ) (y : Prover)
-    (st : Stands (s .rule) (p .side) w path′ ps′ y (machine.toLeaf (gameOf (s .rule) p) (machine.standard (gameOf (s .rule) p)) (g .at))) where
-  -- the leaf, for step 3
-  unfoldable pub to-count : AtLeaf w path′ ps′ y
-  to-count = record { rule = s .rule; side = p .side; at = _; stands = st; playing = leaf-playing p s w path ps x g ranges going unsolved more }
+-- a search of p with settings s in words w
+module _ (p : Position) (s : Settings) (w : List ℕ) where
+  abbrev G : Game
+  G = gameOf (s .rule) p
 
-  -- step 3 was short, or not
-  pub short-is : (b : Bool) → b ≡ ltb (capacity w - machine.live (machine.toLeaf (gameOf (s .rule) p) (machine.standard (gameOf (s .rule) p)) (g .at) .counts))
-      (length (legalMoves (machine.toLeaf (gameOf (s .rule) p) (machine.standard (gameOf (s .rule) p)) (g .at) .node .pos)))
-      → machine.short (gameOf (s .rule) p) (machine.standard (gameOf (s .rule) p)) (machineSettings w s) (machine.toLeaf (gameOf (s .rule) p) (machine.standard (gameOf (s .rule) p)) (g .at)) ≡ b
-  unfolding machine.short machine.standard
-  short-is b e = sym e
+  abbrev P : machine.Policy G
+  P = policyFor s p
 
-  pub place : y .depth ≡ length (machine.toLeaf (gameOf (s .rule) p) (machine.standard (gameOf (s .rule) p)) (g .at) .above)
-  place = sym (line-root _ w path′ (y .depth) _ (st .tree .tree .above))
+  abbrev S : machine.Settings
+  S = machineSettings w s
 
-  module _ (enough : machine.short (gameOf (s .rule) p) (machine.standard (gameOf (s .rule) p)) (machineSettings w s)
-      (machine.toLeaf (gameOf (s .rule) p) (machine.standard (gameOf (s .rule) p)) (g .at)) ≡ false) where
-    pub room : size (machine.children (gameOf (s .rule) p) (machine.toLeaf (gameOf (s .rule) p) (machine.standard (gameOf (s .rule) p)) (g .at) .node .pos))
-        ≤ capacity w - machine.live (machine.toLeaf (gameOf (s .rule) p) (machine.standard (gameOf (s .rule) p)) (g .at) .counts)
+  module _ (path ps : List ℕ) (x : Running) (g : Going p s w path ps x) (ranges : Ranges w s) (going : x .stop ≡ false)
+      (unsolved : solved (machine.root (g .at)) ≡ false) (more : x .prover .expanded ≡ s .budget → ⊥) (path′ ps′ : List ℕ) (y : Prover)
+      (st : Stands (s .rule) (p .side) w path′ ps′ y (machine.toLeaf G P (g .at))) where
+    abbrev t : machine.State Position
+    t = machine.toLeaf G P (g .at)
+
+    -- the leaf, for step 3
+    unfoldable pub to-count : AtLeaf w path′ ps′ y
+    to-count = record { rule = s .rule; side = p .side; at = _; stands = st; playing = leaf-playing p s w path ps x g ranges going unsolved more }
+
+    -- step 3 was short, or not
+    pub short-is : (b : Bool) → b ≡ ltb (capacity w - machine.live (t .counts)) (length (legalMoves (t .node .pos))) → machine.short G P S t ≡ b
     unfolding machine.short
-    room =
-        let G = gameOf (s .rule) p in
-        let t = machine.toLeaf G (machine.standard G) (g .at) in
-        omega (
-          arith,
-          ltb-false (capacity w - machine.live (t .counts)) (machine.standard G .need (t .node .pos)) enough,
-          standard-sane G (lawful (s .rule) (p .side)) .covers (t .node .pos),
-        )
+    short-is b e = ap (ltb (capacity w - machine.live (t .counts))) (policy-needs (s .rule) (p .side) (t .node .pos)) ∙ sym e
 
-    -- what expanding asks for
-    unfoldable pub to-expand : (root : ℕ) → root ≡ sideBit (p .side) → Expandable w path′ ps′ y (s .rule) root
-    to-expand root er =
-        let f = leaf p s w path ps x g ranges going unsolved more in
-        let o = leaf-open p s w path ps x g ranges going unsolved more in
-        let G = gameOf (s .rule) p in
-        let L = lawful (s .rule) (p .side) in
-        let l = g .onward going .0 in
-        let t = machine.toLeaf G (machine.standard G) (g .at) in
-        record {
-          side = p .side;
-          at = t;
-          root-is = er;
-          stands = st;
-          shut = f .shut;
-          bare = o .bare;
-          move = o .some;
-          legal = o .legal;
-          room = room;
-          deep = omega (arith, place, depth-left G L p (t .above) (t .node) (f .rest .above), L .falls (t .node .pos) (o .some) (o .legal), g .few);
-          few-allocated = omega (arith, st .tree .allocated-is, ap (λ c. c .allocated) (f .counts-same), g .allocated-most, l .0, ranges .budget-most);
-          few-expanded = omega (arith, st .expanded-is, ap (λ c. c .expanded) (f .counts-same), l .0, ranges .budget-most);
-        }
+    pub place : y .depth ≡ length (t .above)
+    place = sym (line-root _ w path′ (y .depth) _ (st .tree .tree .above))
 
-    -- what climbing asks for
-    unfoldable pub to-climb : (v : List ℕ) (e : Expanded) → Expansion (s .rule) (p .side) (machine.toLeaf (gameOf (s .rule) p) (machine.standard (gameOf (s .rule) p)) (g .at)) w path′ ps′ v e
-        → Climbable v path′ (e .prover) (e .phi) (e .delta)
-    unfolding machine.expand
-    to-climb v e h =
-        let f = leaf p s w path ps x g ranges going unsolved more in
-        let G = gameOf (s .rule) p in
-        let L = lawful (s .rule) (p .side) in
-        let t = machine.toLeaf G (machine.standard G) (g .at) in
-        record {
-          rule = s .rule;
-          side = p .side;
-          start = p;
-          ps = ps′;
-          at = machine.expand G t;
-          stands = h .stands;
-          phi-is = h .phi-is;
-          delta-is = h .delta-is;
-          climbing = expand-ok G L p t (f .rest) (f .shut);
-          counts-fit = expand-counts G L p t (f .rest) (f .shut) (sequences G p) (leaf-ok p s w path ps x g ranges going unsolved more .counts-fit);
-        }
+    module _ (enough : machine.short G P S t ≡ false) where
+      pub room : size (machine.children G (t .node .pos)) ≤ capacity w - machine.live (t .counts)
+      unfolding machine.short
+      room =
+          omega (
+            arith,
+            ltb-false (capacity w - machine.live (t .counts)) (P .need (t .node .pos)) enough,
+            policy-sane (s .rule) (p .side) .covers (t .node .pos),
+          )
+
+      -- what expanding asks for
+      unfoldable pub to-expand : (root : ℕ) → root ≡ sideBit (p .side) → Expandable w path′ ps′ y (s .rule) root
+      to-expand root er =
+          let f = leaf p s w path ps x g ranges going unsolved more in
+          let o = leaf-open p s w path ps x g ranges going unsolved more in
+          let L = lawful (s .rule) (p .side) in
+          let l = g .onward going .0 in
+          record {
+            side = p .side;
+            at = t;
+            root-is = er;
+            stands = st;
+            shut = f .shut;
+            bare = o .bare;
+            move = o .some;
+            legal = o .legal;
+            room = room;
+            deep = omega (arith, place, depth-left G L p (t .above) (t .node) (f .rest .above), L .falls (t .node .pos) (o .some) (o .legal), g .few);
+            few-allocated = omega (arith, st .tree .allocated-is, ap (λ c. c .allocated) (f .counts-same), g .allocated-most, l .0, ranges .budget-most);
+            few-expanded = omega (arith, st .expanded-is, ap (λ c. c .expanded) (f .counts-same), l .0, ranges .budget-most);
+          }
+
+      -- what climbing asks for
+      unfoldable pub to-climb : (v : List ℕ) (e : Expanded) → Expansion (s .rule) (p .side) t w path′ ps′ v e → Climbable v path′ (e .prover) (e .phi) (e .delta)
+      unfolding machine.expand
+      to-climb v e h =
+          let f = leaf p s w path ps x g ranges going unsolved more in
+          let L = lawful (s .rule) (p .side) in
+          record {
+            rule = s .rule;
+            side = p .side;
+            start = p;
+            ps = ps′;
+            at = machine.expand G t;
+            stands = h .stands;
+            phi-is = h .phi-is;
+            delta-is = h .delta-is;
+            climbing = expand-ok G L p t (f .rest) (f .shut);
+            counts-fit = expand-counts G L p t (f .rest) (f .shut) (sequences G p) (leaf-ok p s w path ps x g ranges going unsolved more .counts-fit);
+          }
