@@ -131,10 +131,13 @@ module _ (p : Position) (s : Settings) (w : List ℕ) where
     unfoldable pub to-search : Searching w path ps (x .prover)
     to-search = record { rule = s .rule; side = p .side; start = p; at = g .at; stands = g .stands; ok = g .ok; few = g .few }
 
+    abbrev expanded : ℕ
+    expanded = g .at .counts .expanded
+
     leads : Leads G P S p (g .at)
     leads = g .onward going .0
 
-    ticks : Ticks (s .interval) (g .at .counts .expanded) (x .tick)
+    ticks : Ticks (s .interval) expanded (x .tick)
     ticks = g .onward going .1
 
     -- step 1, and before it the root solved
@@ -143,53 +146,51 @@ module _ (p : Position) (s : Settings) (w : List ℕ) where
         goes-no-further w path ps refl (g .few) y (g .at) (subst (λ z. Stands (s .rule) (p .side) w path ps z (g .at)) (sym ey) (g .stands)) (g .ok) (g .allocated-most) es
         (rw ec (ends-solved G P S p (g .at) leads e)) (λ c. absurd (omega arith))
 
-    pub stop-spent : x .prover .expanded ≡ s .budget → solved (machine.root (g .at)) ≡ false → (y : Running) → y .prover ≡ x .prover → y .tick ≡ x .tick → y .stop ≡ true → y .cause ≡ 1
-        → Going p s w path ps y
+    pub stop-spent : x .prover .expanded ≡ s .budget → solved (machine.root (g .at)) ≡ false
+        → (y : Running) → y .prover ≡ x .prover → y .tick ≡ x .tick → y .stop ≡ true → y .cause ≡ 1 → Going p s w path ps y
     stop-spent e u y ey et es ec =
         let h = ends-spent G P S p (g .at) leads (sym (g .stands .expanded-is) ∙ e) u in
         goes-no-further w path ps refl (g .few) y (g .at) (subst (λ z. Stands (s .rule) (p .side) w path ps z (g .at)) (sym ey) (g .stands)) (g .ok) (g .allocated-most) es
-        (rw ec (ap (machine.result G) (h .here))) (λ c. (h, subst (λ k. Ticks (s .interval) (g .at .counts .expanded) k) (sym et) ticks))
+        (rw ec (ap (machine.result G) (h .here))) (λ c. (h, subst (Ticks (s .interval) expanded) (sym et) ticks))
 
     module _ (unsolved : solved (machine.root (g .at)) ≡ false) (more : x .prover .expanded ≡ s .budget → ⊥) where
-      more′ : g .at .counts .expanded ≡ s .budget → ⊥
+      more′ : expanded ≡ s .budget → ⊥
       more′ e = more (g .stands .expanded-is ∙ e)
 
+      abbrev t : machine.State Position
+      t = machine.toLeaf G P (g .at)
+
       -- the leaf that step 2 comes to
-      pub leaf : Found G p (g .at) (machine.toLeaf G P (g .at))
+      pub leaf : Found G p (g .at) t
       leaf = found-leaf G L P Q p S (ranges .few) (g .at) (g .ok) unsolved
 
-      pub leaf-ok : StateOk G p (capacity w) (machine.toLeaf G P (g .at))
+      pub leaf-ok : StateOk G p (capacity w) t
       leaf-ok = leaf-state G L P Q p S (ranges .few) (g .at) (g .ok) unsolved
 
-      pub leaf-open : OpenLeaf G (machine.toLeaf G P (g .at) .node)
-          (machine.toLeaf G P (g .at) .below)
+      pub leaf-open : OpenLeaf G (t .node) (t .below)
       leaf-open = leaf-of G _ _ (leaf .rest .ok) (leaf .rest .phi-pos) (leaf .rest .delta-pos) (leaf .shut)
 
-      pub leaf-playing : gameState (machine.toLeaf G P (g .at) .node .pos) ≡ 0
+      pub leaf-playing : gameState (t .node .pos) ≡ 0
       leaf-playing = legal _ _ (in-legal _ _ (leaf-open .legal)) .unfinished
 
       -- step 3: short of nodes at the leaf
-      pub stop-short : (path′ ps′ : List ℕ) (y : Running)
-          → Stands (s .rule) (p .side) w path′ ps′ (y .prover) (machine.toLeaf G P (g .at))
-          → machine.short G P S (machine.toLeaf G P (g .at)) ≡ true
+      pub stop-short : (path′ ps′ : List ℕ) (y : Running) → Stands (s .rule) (p .side) w path′ ps′ (y .prover) t → machine.short G P S t ≡ true
           → y .stop ≡ true → y .cause ≡ 2 → Going p s w path′ ps′ y
-      stop-short path′ ps′ y st t es ec =
+      stop-short path′ ps′ y st b es ec =
           goes-no-further w path′ ps′ refl (g .few) y _ st leaf-ok (rw (leaf .counts-same) (g .allocated-most)) es
-          (rw ec (ends-short G P S p (g .at) leads more′ unsolved t)) (λ c. absurd (omega arith))
+          (rw ec (ends-short G P S p (g .at) leads more′ unsolved b)) (λ c. absurd (omega arith))
 
-      module _ (enough : machine.short G P S
-          (machine.toLeaf G P (g .at)) ≡ false) where
+      module _ (enough : machine.short G P S t ≡ false) where
         abbrev after : machine.State Position
         after = machine.round G P (g .at)
 
-        rounded : StateOk G p (capacity w) after × (after .counts .expanded ≡ suc (g .at .counts .expanded))
+        rounded : StateOk G p (capacity w) after × (after .counts .expanded ≡ suc expanded)
         rounded = round-ok G L P Q p S (ranges .few) (g .at) (g .ok) unsolved enough
 
         -- an expansion makes at most 81 nodes
         rounded-most : after .counts .allocated ≤ 1 + 81 * after .counts .expanded
         unfolding machine.round machine.expand
         rounded-most =
-            let t = machine.toLeaf G P (g .at) in
             let u = machine.expand G t in
             omega (
               arith,
@@ -203,7 +204,7 @@ module _ (p : Position) (s : Settings) (w : List ℕ) where
 
         -- what step 6 asks for
         pub tick-left : 0 < x .tick
-        tick-left = tick-some (s .interval) (g .at .counts .expanded) (x .tick) (ranges .interval-some) ticks
+        tick-left = tick-some (s .interval) expanded (x .tick) (ranges .interval-some) ticks
 
         pub freed-fewer : (w′ path′ ps′ : List ℕ) (next : Prover) → Stands (s .rule) (p .side) w′ path′ ps′ next after → next .pool .freed ≤ next .pool .allocated
         freed-fewer w′ path′ ps′ next st = omega (arith, rounded .0 .counts-fit .live, st .tree .allocated-is, st .tree .freed-is)
@@ -211,50 +212,54 @@ module _ (p : Position) (s : Settings) (w : List ℕ) where
         -- step 6, from what the counter says
         module _ (w′ path′ ps′ : List ℕ) (next : Prover) (y : Running) (long : length w′ ≡ length w) (st : Stands (s .rule) (p .side) w′ path′ ps′ next after)
             (ticked : Ticked next (x .tick) s y) where
+          abbrev live : ℕ
+          live = next .pool .allocated - next .pool .freed
+
           stands′ : Stands (s .rule) (p .side) w′ path′ ps′ (y .prover) after
           stands′ = subst (λ z. Stands (s .rule) (p .side) w′ path′ ps′ z after) (sym (ticked .prover-is)) st
 
           pub more-expanded : y .prover .expanded ≡ suc (x .prover .expanded)
           more-expanded = stands′ .expanded-is ∙ rounded .1 ∙ ap suc (sym (g .stands .expanded-is))
 
-          live-is : machine.live (after .counts) ≡ next .pool .allocated - next .pool .freed
+          live-is : machine.live (after .counts) ≡ live
           unfolding machine.live
           live-is = rw (st .tree .allocated-is, st .tree .freed-is)
 
-          due : (b : Bool) → eqb (suc (g .at .counts .expanded) % s .interval) 0 ≡ b → eqb (after .counts .expanded % s .interval) 0 ≡ b
+          due : (b : Bool) → eqb (suc expanded % s .interval) 0 ≡ b → eqb (after .counts .expanded % s .interval) 0 ≡ b
           due b e = ap (λ n. eqb (n % s .interval) 0) (rounded .1) ∙ e
+
+          ticks-on : (k : ℕ) → y .tick ≡ k → Ticks (s .interval) (suc expanded) k → Ticks (s .interval) (after .counts .expanded) (y .tick)
+          ticks-on k e h = rw (rounded .1, e) h
 
           on : (x .tick ≡ 1 → ⊥) → Going p s w′ path′ ps′ y
           unfolding machine.overLimit
           on n =
               goes-on w′ path′ ps′ long (g .few) y after stands′ (rounded .0) rounded-most (ticked .on n .0)
               (leads-on G P S p (g .at) leads more′ unsolved enough (rounded .1)
-              (rw (due false (tick-not-due (s .interval) (g .at .counts .expanded) (x .tick) (ranges .interval-some) ticks n))))
-              (subst (λ k. Ticks (s .interval) k (y .tick)) (sym (rounded .1))
-              (subst (λ k. Ticks (s .interval) (suc (g .at .counts .expanded)) k) (sym (ticked .on n .1)) (tick-next (s .interval) (g .at .counts .expanded) (x .tick) (ranges .interval-some) ticks n)))
+              (rw (due false (tick-not-due (s .interval) expanded (x .tick) (ranges .interval-some) ticks n))))
+              (ticks-on _ (ticked .on n .1) (tick-next (s .interval) expanded (x .tick) (ranges .interval-some) ticks n))
 
-          under : x .tick ≡ 1 → next .pool .allocated - next .pool .freed ≤ s .limit → Going p s w′ path′ ps′ y
+          under : x .tick ≡ 1 → live ≤ s .limit → Going p s w′ path′ ps′ y
           unfolding machine.overLimit
           under e l =
               goes-on w′ path′ ps′ long (g .few) y after stands′ (rounded .0) rounded-most (ticked .under e l .0)
               (leads-on G P S p (g .at) leads more′ unsolved enough (rounded .1)
-              (rw (live-is, le-ltb (s .limit) (next .pool .allocated - next .pool .freed) l) (and-false (eqb (after .counts .expanded % s .interval) 0))))
-              (subst (λ k. Ticks (s .interval) k (y .tick)) (sym (rounded .1))
-              (subst (λ k. Ticks (s .interval) (suc (g .at .counts .expanded)) k) (sym (ticked .under e l .1)) (tick-again (s .interval) (g .at .counts .expanded) (x .tick) (ranges .interval-some) ticks e)))
+              (rw (live-is, le-ltb (s .limit) live l) (and-false (eqb (after .counts .expanded % s .interval) 0))))
+              (ticks-on _ (ticked .under e l .1) (tick-again (s .interval) expanded (x .tick) (ranges .interval-some) ticks e))
 
-          over : x .tick ≡ 1 → s .limit < next .pool .allocated - next .pool .freed → Going p s w′ path′ ps′ y
+          over : x .tick ≡ 1 → s .limit < live → Going p s w′ path′ ps′ y
           unfolding machine.overLimit
           over e l =
               goes-no-further w′ path′ ps′ long (g .few) y after stands′ (rounded .0) rounded-most (ticked .over e l .0)
               (rw (ticked .over e l .1)
               (ends-over G P S p (g .at) leads more′ unsolved enough
-              (rw (due true (tick-due (s .interval) (g .at .counts .expanded) (x .tick) (ranges .interval-some) ticks e), live-is, lt-ltb (s .limit) (next .pool .allocated - next .pool .freed) l))))
+              (rw (due true (tick-due (s .interval) expanded (x .tick) (ranges .interval-some) ticks e), live-is, lt-ltb (s .limit) live l))))
               (λ c. absurd (omega (arith, ticked .over e l .1)))
 
           pub goes-after : Going p s w′ path′ ps′ y
-          goes-after = go (ℕ-discrete (x .tick) 1) (decLt (s .limit) (next .pool .allocated - next .pool .freed))
+          goes-after = go (ℕ-discrete (x .tick) 1) (decLt (s .limit) live)
             where
-              go : Dec (x .tick ≡ 1) → Dec (s .limit < next .pool .allocated - next .pool .freed) → Going p s w′ path′ ps′ y
+              go : Dec (x .tick ≡ 1) → Dec (s .limit < live) → Going p s w′ path′ ps′ y
               go (no n) d = on n
               go (yes e) (yes l) = over e l
               go (yes e) (no n) = under e (omega (arith, n))

@@ -70,7 +70,10 @@ to-loop p s w v path ps y root a r er b = (
       ok = start-ok (gameOf (s .rule) p) (lawful (s .rule) (p .side)) p (capacity v) (omega (arith, r .some, b .long));
       few = left-most p a;
       allocated-most = omega arith;
-      onward = λ q. ((omega arith, ap (λ k. machine.run (gameOf (s .rule) p) (policyFor s p) (machineSettings v s) k (machine.start (gameOf (s .rule) p) p)) (whole (s .budget))), tick-start (s .interval));
+      onward = λ q. (
+        (omega arith, ap (λ k. machine.run (gameOf (s .rule) p) (policyFor s p) (machineSettings v s) k (machine.start (gameOf (s .rule) p) p)) (whole (s .budget))),
+        tick-start (s .interval),
+      );
       ended = λ q. absurd (true≢false (sym q));
       spent = λ q. absurd (true≢false (sym q));
     };
