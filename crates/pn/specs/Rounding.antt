@@ -8,7 +8,7 @@ use native.Mathlib.Decide.{ℕ-discrete, decLt}
 use borrow.Author.Tests.{lt-ltb, le-ltb}
 use lib.Dec.{eqb, ltb}
 use lib.ListN.{length}
-use Rattle.rules.specs.Rules.{Player, Position, state, gameState, legalMoves, count}
+use Rattle.rules.specs.Rules.{Player, Position, gameState, legalMoves, count}
 use Rattle.rules.specs.Legal.{legal}
 use Rattle.rules.specs.LegalMoves.{in-legal, moves-few}
 use Rattle.machine.specs.Game.{Game}
@@ -20,7 +20,7 @@ use Rattle.machine.specs.Place.{Sane}
 use Rattle.machine.specs.Descent.{Found}
 use Rattle.machine.specs.Rounds.{StateOk, children-ok, found-leaf, leaf-state, round-ok}
 use Rattle.machine.specs.Climb.{climb-stay, climb-root, climb-next}
-use Rattle.plain.specs.Plain.{game, gameOf}
+use Rattle.plain.specs.Plain.{gameOf}
 use Rattle.plain.specs.Laws.{lawful, policy-sane}
 use Rattle.words.specs.Words.{capacity}
 use Rattle.prover.specs.declared.Prover.{Prover}

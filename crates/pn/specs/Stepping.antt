@@ -12,7 +12,7 @@ use Rattle.machine.specs.Game.{Game}
 use Rattle.machine.specs.Tree.{solved}
 use Rattle.machine.specs.Machine as machine
 use Rattle.plain.specs.Plain.{gameOf}
-use Rattle.words.specs.Words.{PHI, DELTA, word, capacity, Beyond}
+use Rattle.words.specs.Words.{PHI, DELTA, word, Beyond}
 use Rattle.prover.specs.declared.Prover.{Prover}
 use Rattle.prover.specs.Stands.{Stands}
 use Rattle.pn.specs.Results.{machineSettings}
