@@ -1,30 +1,26 @@
 -- From the tests that the code makes to the children of a position: what the functions require, and what their answers say of the plain machine's leaves.
 -- Rests on Skips, Scalars and Leaves.
 use Prim.Native.Nat.{ℕ, _+_, _*_, _<_}
-use mathlib.Core.Path.{_≡_, refl, ap, sym, _∙_}
+use mathlib.Core.Path.{_≡_, ap, sym, _∙_}
 use mathlib.Core.Bool.{true, false, not}
-use mathlib.Core.List.{List, []}
+use mathlib.Core.List.{[]}
 use native.Mathlib.Omega.{arith}
 use borrow.Author.Tests.{eqb-true}
-use Rattle.rules.specs.Rules.{Player, Position, mark, code, board, boardStates, gameState, boardOf, cellOf, moveOf, leads, moveError, play}
-use Rattle.rules.specs.Record.{sideBit}
+use Rattle.rules.specs.Rules.{Player, Position, code, boardStates, gameState, boardOf, cellOf, moveOf, leads, moveError, play}
 use Rattle.rules.specs.Boards.{code-states}
 use Rattle.rules.specs.Legal.{legal, legal-error}
 use Rattle.rules.specs.LegalMoves.{legal-in}
-use Rattle.game.specs.Masks.{mask, maskOf, nonzero, hasBit}
-use Rattle.game.specs.Words.{Holds}
+use Rattle.game.specs.Masks.{hasBit}
 use Rattle.game.specs.Cursor.{movesFrom}
-use Rattle.machine.specs.Tree.{leaf}
-use Rattle.machine.specs.Machine.{Verdict, Unknown}
-use Rattle.plain.specs.Plain.{game, gameOf}
-use Rattle.plain.specs.Laws.{lawful, root-mine}
-use Rattle.prove.specs.Numbers.{Pair}
+use Rattle.machine.specs.Machine.{Unknown}
+use Rattle.plain.specs.Plain.{game}
+use Rattle.plain.specs.Laws.{lawful}
 use Rattle.words.specs.Packed.{view}
 use Rattle.evaluate.specs.Final.{positionVerdict}
 use Rattle.children.specs.declared.Outer.{Outer}
 use Rattle.children.specs.Skips.{Playing, board-test, cell-test, board-done, before-target, after-target}
 use Rattle.children.specs.Scalars.{OuterOf, CellsOf, ChildOf}
-use Rattle.children.specs.Leaves.{LeafBounds, can-move-after, verdict-evaluated}
+use Rattle.children.specs.Leaves.{can-move-after, verdict-evaluated}
 
 -- A board by its test, and a target by its number.
 module _ {p : Position} {o : Outer} (r : OuterOf p o) where
@@ -60,23 +56,6 @@ module _ {p : Position} {o : Outer} (r : OuterOf p o) where
         });
       }
 
--- Every legal move of a position in words is one.
-pub child-there : {p : Position} {ws : List ℕ} {base : ℕ} → Holds p ws base → (m : ℕ) → moveError p m ≡ 0
-    → (o : Outer) × (mine : ℕ) × (taken : ℕ) × ChildOf p o mine taken (boardOf m) (cellOf m)
-child-there {p} {ws} {base} h m e =
-    let again : moveOf (boardOf m) (cellOf m) ≡ m = omega arith in (
-      record { won = mask (mark (p .side)) (boardStates (p .cells)); done = maskOf nonzero (boardStates (p .cells)); target = p .target; side = sideBit (p .side) },
-      mask (mark (p .side)) (board (p .cells) (boardOf m)),
-      maskOf nonzero (board (p .cells) (boardOf m)),
-      record {
-        board-in = legal p m e .board-in;
-        cell-in = legal p m e .cell-in;
-        outer = record { words = ws; base = base; held = h; won-is = refl; done-is = refl; target-is = refl; side-is = refl };
-        cells = record { mine-is = refl; taken-is = refl };
-        legal = rw again e;
-      },
-    )
-
 -- The other side is to move after a legal move.
 pub and-after : (rule : ℕ) (root : Player) (p : Position) (m : ℕ) → moveError p m ≡ 0 → view (game rule root) .and (play p m) ≡ not (view (game rule root) .and p)
 and-after rule root p m e = ap not (lawful rule root .turns p m (legal-in p m e))
@@ -88,8 +67,3 @@ open-value rule root p m e g = by (play p m) g ∙ verdict-evaluated rule root (
   where
     by : (q : Position) → gameState q ≡ 0 → Unknown ≡ positionVerdict rule root q
     by q z = rw z
-
--- The root: its own side is to move, and no move led to it.
-pub root-bounds : (rule : ℕ) (p : Position) (v : Verdict) (phi delta : ℕ) → LeafBounds v false phi delta → v ≡ view (gameOf rule p) .value p
-    → Pair phi delta (leaf (gameOf rule p) p 255 .phi) (leaf (gameOf rule p) p 255 .delta)
-root-bounds rule p v phi delta b e = b rule (p .side) p 255 e (sym (ap not (root-mine rule p)))

@@ -1,9 +1,8 @@
 -- What an evaluation says of a leaf of the plain machine: whether its position has legal moves, and its numbers. Rests on the rules' legal moves and evaluate's verdicts.
 use Prim.Native.Nat.{ℕ, _-_}
-use mathlib.Core.Path.{_≡_, refl, sym, subst, _∙_}
+use mathlib.Core.Path.{_≡_, refl, sym, _∙_}
 use mathlib.Core.Bool.{Bool, true, false, cond, not, Bool·beq}
 use mathlib.Core.List.{List, [], _∷_, List·Memᴰ, List·Memᴰ·not-nil}
-use mathlib.Core.Logic.{_↔_}
 use native.Mathlib.Decide.{ℕ-discrete}
 use borrow.Author.Tests.{ne-eqb}
 use lib.Dec.{eqb}
@@ -22,9 +21,6 @@ use Rattle.evaluate.specs.Final.{stateVerdict, positionVerdict, verdict-is}
 -- A position that has a legal move while its game is in play.
 abbrev pub CanMove : Position → Type 0
 CanMove q = gameState q ≡ 0 → (m : ℕ) × List·Memᴰ m (legalMoves q)
-
-pub no-moves-iff : (q : Position) → CanMove q → (legalMoves q ≡ []) ↔ (gameState q ≡ 0 → ⊥)
-no-moves-iff q f = (λ e g. let r = f g in List·Memᴰ·not-nil (subst (List·Memᴰ (r .0)) e (r .1)), finished-none q)
 
 -- Such is every position after a legal move, since its target is free or names a board in play; and an accepted one.
 pub can-move-after : (p : Position) (m : ℕ) → moveError p m ≡ 0 → CanMove (play p m)

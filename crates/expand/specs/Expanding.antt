@@ -1,32 +1,24 @@
--- How expand does step 4 from start to end: no child is made, all are made, they are the leaf's own. And how the machine's laws give what it asks for. Rests on
--- Targets and Expandable.
+-- How expand does step 4 from start to end: no child is made, all are made, they are the leaf's own. Rests on Targets and Expandable.
 use mathlib.Core.Path.{_≡_, refl, ap, sym, _∙_, subst}
 use mathlib.Core.List.{List, []}
 use mathlib.Core.Bool.{Bool, true, false, not}
-use Prim.Native.Nat.{ℕ, _+_, _*_, _-_, _≤_, _<_, min}
+use Prim.Native.Nat.{ℕ, _+_, _*_, min}
 use native.Mathlib.Omega.{arith}
 use lib.Dec.{eqb}
-use lib.ListN.{length, getD}
+use lib.ListN.{getD}
 use borrow.Author.Tests.{eq-eqb}
-use Rattle.rules.specs.Rules.{Player, Position, gameState, legalMoves, count}
-use Rattle.rules.specs.Record.{sideBit}
+use Rattle.rules.specs.Rules.{Position, gameState, legalMoves}
 use Rattle.rules.specs.Legal.{legal}
-use Rattle.rules.specs.LegalMoves.{in-legal, moves-few}
+use Rattle.rules.specs.LegalMoves.{in-legal}
 use Rattle.game.specs.Words.{Holds}
 use Rattle.game.specs.Cursor.{movesFrom, moves-all}
 use Rattle.machine.specs.Game.{Game}
 use Rattle.machine.specs.Tree.{Node, u32-max, Children, none, size, leastDelta, sumPhi}
-use Rattle.machine.specs.Machine.{State, live, make, children, opened, expand}
-use Rattle.machine.specs.Numbers.{leaf-of}
-use Rattle.machine.specs.Place.{AtUnsolved}
-use Rattle.machine.specs.Descent.{depth-left}
-use Rattle.machine.specs.Rounds.{children-ok}
+use Rattle.machine.specs.Machine.{live, make, children, opened, expand}
 use Rattle.plain.specs.Plain.{game}
-use Rattle.plain.specs.Laws.{lawful}
 use Rattle.words.specs.Packed.{View, bit, andIn, expandedIn, view, packed-read}
-use Rattle.words.specs.Words.{NONE, PACKED, FIRST, word, setWord, capacity, Slot, beyond-trans, Stored, stored, slot-long, only-trans, only-beyond}
+use Rattle.words.specs.Words.{NONE, PACKED, FIRST, word, setWord, Slot, beyond-trans, Stored, stored, slot-long, only-trans, only-beyond}
 use Rattle.words.specs.Pool.{Holding}
-use Rattle.words.specs.Steps.{line-root}
 use Rattle.words.specs.Store.{holding-opened}
 use Rattle.words.specs.States.{holds-expanded}
 use Rattle.prover.specs.declared.Prover.{Prover}
@@ -38,7 +30,7 @@ use Rattle.expand.specs.declared.Parent.{Parent}
 use Rattle.expand.specs.declared.Expanded.{Expanded}
 use Rattle.expand.specs.Progress.{Leaf, toCome, Progress}
 use Rattle.expand.specs.Targets.{Unmade}
-use Rattle.expand.specs.Expandable.{counter-max, Expandable, Expansion, NoneMade, counted, attached}
+use Rattle.expand.specs.Expandable.{Expandable, Expansion, NoneMade, counted, attached}
 
 -- A flag read from its bit
 flag-of : (b : Bool) → eqb (bit b) 1 ≡ b
@@ -173,37 +165,3 @@ module _ (w path ps : List ℕ) (x : Prover) (rule root : ℕ) (g : Expandable w
         delta-is = ed ∙ h .delta-is ∙ ap (λ (ks : Children Position). min (sumPhi ks) u32-max) all-made;
         past = beyond-trans w w₁ v (h .long) (h .past) (only-beyond leaf-slot (only-trans (marked .only) (linked .only)));
       }
-
--- At most 81 children are made, and no more than there are legal moves
-pub children-moves : (rule : ℕ) (root : Player) (p : Position) → size (children (game rule root) p) ≤ length (legalMoves p)
-children-moves rule root p = omega (arith, children-ok (game rule root) (lawful rule root) p .most)
-
-pub children-few : (rule : ℕ) (root : Player) (p : Position) → size (children (game rule root) p) ≤ 81
-children-few rule root p = omega (arith, children-moves rule root p, moves-few p)
-
--- The machine's laws at a leaf that is not solved give what expand asks for, once step 3 has found nodes enough
-pub expandable : (w path ps : List ℕ) (x : Prover) (rule root : ℕ) (side : Player) (start : Position) (at : State Position) → root ≡ sideBit side → Stands rule side w path ps x at
-    → AtUnsolved (game rule side) start at → at .node .expanded ≡ false → count 0 (start .cells) ≤ 81 → size (children (game rule side) (at .node .pos)) ≤ capacity w - live (at .counts)
-    → x .pool .allocated < counter-max → x .expanded < counter-max → Expandable w path ps x rule root
-expandable w path ps x rule root side start at er h u e few room fa fe =
-    let L = lawful rule side in
-    let o = leaf-of (game rule side) (at .node) (at .below) (u .ok) (u .phi-pos) (u .delta-pos) e in
-    record {
-      side = side;
-      at = at;
-      root-is = er;
-      stands = h;
-      shut = e;
-      bare = o .bare;
-      move = o .some;
-      legal = o .legal;
-      room = room;
-      deep = omega (
-        arith,
-        line-root (view (game rule side)) w path (x .depth) (at .above) (h .tree .tree .above),
-        depth-left (game rule side) L start (at .above) (at .node) (u .above),
-        L .falls (at .node .pos) (o .some) (o .legal),
-      );
-      few-allocated = fa;
-      few-expanded = fe;
-    }

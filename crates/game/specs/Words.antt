@@ -7,7 +7,7 @@ use mathlib.Core.Path.{_≡_, refl, ap, sym, _∙_}
 use mathlib.Core.Bool.{Bool, true, false, cond, not, Bool·not-not}
 use mathlib.Core.List.{List, [], _∷_}
 use native.Mathlib.Omega.{arith}
-use borrow.Author.Tests.{lt-ltb, ltb-true}
+use borrow.Author.Tests.{ltb-true}
 use lib.ListN.{length, getD, take, drop}
 use lib.Dec.{eqb, ltb}
 use Rattle.rules.specs.Rules.{Player, Position, mark, code, answers, all, any, hasLine, state, board, boardStates, gameState}
@@ -50,9 +50,6 @@ all-drop f (suc n) (c ∷ cs) h = all-drop f n cs (both-true (f c) (all f cs) h 
 pub all-board : (f : ℕ → Bool) (cs : List ℕ) (b : ℕ) → all f cs ≡ true → all f (board cs b) ≡ true
 unfolding board
 all-board f cs b h = all-take f 9 (drop (b * 9) cs) (all-drop f (b * 9) cs h)
-
-small-code : (c : ℕ) → ltb c 3 ≡ true → ltb c 4 ≡ true
-small-code c h = lt-ltb c 4 (omega (arith, ltb-true c 3 h))
 
 state-small : (a b c : Bool) → ltb (cond a 1 (cond b 2 (cond c 0 3))) 4 ≡ true
 state-small true b c = refl

@@ -2,10 +2,10 @@
 
 ghost use mathlib.Core.Path.{_≡_};
 ghost use mathlib.Core.Bool.{cond, not, _&&_, _||_};
-ghost use Prim.Native.Nat.{ℕ, _+_, _-_, _*_, _^_, _<_, _≤_};
+ghost use Prim.Native.Nat.{_+_, _-_, _*_, _^_, _<_, _≤_};
 ghost use lib.ListN.{length, getD};
 ghost use lib.Dec.{eqb, ltb};
-ghost use Rattle.rules.specs.Rules.{Position, board, boardStates, gameState, boardOf, cellOf, moveOf, leads, moveError, code};
+ghost use Rattle.rules.specs.Rules.{Position, boardStates, gameState, boardOf, cellOf, moveOf, leads, moveError, code};
 ghost use Rattle.game.specs.Numbers.{playerNumber, cellNumber, stateNumber, resultNumber};
 ghost use Rattle.game.specs.Masks.{hasBit, maskOf, nonzero};
 ghost use Rattle.game.specs.Lines.{lineIn, lineTable};
@@ -22,15 +22,6 @@ pub enum Player {
 }
 
 impl Player {
-    pub fn other(self) -> Self
-        ensures { λ r. ⌜ playerNumber r + playerNumber self ≡ 1 ⌝ }
-    {
-        match self {
-            Player::X => Player::O,
-            Player::O => Player::X,
-        }
-    }
-
     pub fn as_bit(self) -> usize
         ensures { λ r. ⌜ r ≡ playerNumber self ⌝ }
     {
@@ -92,12 +83,6 @@ impl Move {
         ensures { λ r. ⌜ r .0 ≡ 255 ⌝ }
     {
         Move(255)
-    }
-
-    pub fn is_none(self) -> bool
-        ensures { λ r. ⌜ r ≡ eqb (self .0) 255 ⌝ }
-    {
-        self.0 == 255
     }
 }
 

@@ -1,15 +1,11 @@
 -- What the calls of the pool come to. Rests on words.
 use mathlib.Core.Path.{_≡_}
 use mathlib.Core.List.{List, _∷_}
-use mathlib.Core.Bool.{Bool, true, false}
 use Prim.Native.Nat.{ℕ, _+_, _<_}
-use lib.Dec.{eqb}
 use Rattle.rules.specs.Rules.{Position}
 use Rattle.prove.specs.declared.Bounds.{Bounds}
-use Rattle.prove.specs.declared.Evaluation.{Evaluation}
-use Rattle.prove.specs.declared.Evaluation.the-variants as evaluation
 use Rattle.machine.specs.Tree.{Node, Children, none, child}
-use Rattle.words.specs.Packed.{View, valueIn}
+use Rattle.words.specs.Packed.{View}
 use Rattle.words.specs.Packed as packing
 use Rattle.words.specs.Words.{NONE, Beyond, Filled}
 use Rattle.words.specs.Trees.{Part, uses}
@@ -18,21 +14,6 @@ use Rattle.words.specs.Freeing.{Freeable, Freed}
 use Rattle.node_pool.specs.declared.NodeID.{NodeID}
 use Rattle.node_pool.specs.declared.Pool.{Pool}
 use Rattle.node_pool.specs.declared.AllocedNode.{AllocedNode}
-
-abbrev pub ifTrue : Bool → Evaluation → Evaluation → Evaluation
-ifTrue true a b = a
-ifTrue false a b = b
-
--- The value that a packed word has: 1 True, 2 False, otherwise open
-abbrev pub evaluationIn : ℕ → Evaluation
-evaluationIn x = ifTrue (eqb (valueIn x) 1) evaluation.True (ifTrue (eqb (valueIn x) 2) evaluation.False evaluation.Unknown)
-
--- No node was used
-pub record Fresh (p : Pool) : Type 0 where
-  pub free-is : p .free .0 ≡ NONE
-  pub used-is : p .used ≡ 0
-  pub allocated-is : p .allocated ≡ 0
-  pub freed-is : p .freed ≡ 0
 
 -- A node was taken, and a leaf made of it: `number` says which one and what is free then, `filled` that no other node was touched.
 -- In front of a list of siblings that stood in the words it stands as a child more

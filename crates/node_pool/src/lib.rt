@@ -7,11 +7,11 @@ ghost use lib.ListN.{length};
 ghost use lib.Dec.{eqb};
 ghost use Rattle.rules.specs.Rules.{Position};
 ghost use Rattle.prove.specs.Numbers.{number};
-ghost use Rattle.words.specs.Packed.{pack, bit, expandedIn, andIn, freeIn, moveIn};
+ghost use Rattle.words.specs.Packed.{pack, bit, expandedIn, andIn, moveIn};
 ghost use Rattle.words.specs.Words.{NONE, PHI, DELTA, PACKED, FIRST, SIBLING, word, setWord, capacity, Slot, Filled};
 ghost use Rattle.words.specs.Free.{Spare, Number};
 ghost use Rattle.words.specs.Freeing.{plies, Pushed, Freeable};
-ghost use Rattle.node_pool.specs.Contracts.{evaluationIn, Fresh, Allocs, Frees, FreesAll};
+ghost use Rattle.node_pool.specs.Contracts.{Allocs, Frees, FreesAll};
 use game::Move;
 use prove::Bounds;
 use prove::Evaluation;
@@ -128,16 +128,6 @@ fn flag(b: bool) -> u32
     if b { 1 } else { 0 }
 }
 
-pub fn value_in(packed: u32) -> Evaluation
-    ensures { λ r. ⌜ r ≡ evaluationIn packed ⌝ }
-{
-    match packed / 1073741824 {
-        1 => Evaluation::True,
-        2 => Evaluation::False,
-        _ => Evaluation::Unknown,
-    }
-}
-
 pub fn expanded_in(packed: u32) -> bool
     ensures { λ r. ⌜ r ≡ eqb (expandedIn packed) 1 ⌝ }
 {
@@ -148,12 +138,6 @@ pub fn and_in(packed: u32) -> bool
     ensures { λ r. ⌜ r ≡ eqb (andIn packed) 1 ⌝ }
 {
     packed / 268435456 % 2 == 1
-}
-
-pub fn free_in(packed: u32) -> bool
-    ensures { λ r. ⌜ r ≡ eqb (freeIn packed) 1 ⌝ }
-{
-    packed / 134217728 % 2 == 1
 }
 
 pub fn move_in(packed: u32) -> Move
@@ -195,17 +179,6 @@ pub struct Pool {
 }
 
 impl Pool {
-    pub fn new() -> Self
-        ensures { λ r. ⌜ Fresh r ⌝ }
-    {
-        Pool {
-            free: NodeID(NO_NODE),
-            used: 0,
-            allocated: 0,
-            freed: 0,
-        }
-    }
-
     pub fn live(self) -> u64
         requires { ⌜ self .freed ≤ self .allocated ⌝ }
         ensures { λ r. ⌜ r ≡ self .allocated - self .freed ⌝ }
