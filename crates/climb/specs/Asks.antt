@@ -1,13 +1,13 @@
 -- What the functions of step 5 ask for, and what they come to. Rests on prover's Stands and the plain machine.
 use mathlib.Core.Path.{_≡_}
 use mathlib.Core.List.{List, _∷_}
-use mathlib.Core.Bool.{Bool, true, false, cond}
+use mathlib.Core.Bool.{Bool, true, false, cond, _||_}
 use Prim.Native.Nat.{ℕ, suc, _+_, _≤_, _<_, min}
 use lib.Dec.{eqb}
 use lib.ListN.{length, getD}
 use Rattle.rules.specs.Rules.{Player, Position}
 use Rattle.machine.specs.Game.{Game, sequences}
-use Rattle.machine.specs.Tree.{Node, u32-max, Children, child, leastDelta, sumPhi, append}
+use Rattle.machine.specs.Tree.{Node, u32-max, Children, none, child, leastDelta, sumPhi, append}
 use Rattle.machine.specs.Machine.{Counts, Ancestor, State, state, store, climb}
 use Rattle.machine.specs.Place.{AncestorOk, Above, sizesOf}
 use Rattle.machine.specs.Climb.{Climbing, CountsFit}
@@ -29,12 +29,16 @@ pub record Recomputable (w : List ℕ) (first : ℕ) : Type 0 where
 abbrev pub Recomputes : List ℕ → ℕ → ℕ → ℕ → Type 0
 Recomputes w first phi delta = (g : Recomputable w first) → Pair phi delta (leastDelta (g .walk .list)) (min (sumPhi (g .walk .list)) u32-max)
 
--- Found: then the least delta is no more
+-- Whether one of a list of siblings has that delta
+unfoldable pub hasDelta : {Pos : Type 0} → ℕ → Children Pos → Bool
+hasDelta x none = false
+hasDelta x (child n b ks) = eqb (n .delta) x || hasDelta x ks
+
 abbrev pub Finds : List ℕ → ℕ → ℕ → Bool → Type 0
-Finds w first delta r = r ≡ true → (g : Recomputable w first) → leastDelta (g .walk .list) ≤ delta
+Finds w first delta r = (g : Recomputable w first) → r ≡ hasDelta delta (g .walk .list)
 
 -- The siblings from `first` on, of which one, with its number, has a new delta; no other is below the phi that the node above them had
-pub record Lowering (w : List ℕ) (first number held delta : ℕ) : Type 0 where
+pub record PhiRaisable (w : List ℕ) (first number held delta : ℕ) : Type 0 where
   pub view : View Position
   pub walk : Walkable view w first
   pub slot : Slot w number
@@ -44,19 +48,19 @@ pub record Lowering (w : List ℕ) (first number held delta : ℕ) : Type 0 wher
   pub least-is : leastDelta (walk .list) ≡ min delta others
   pub low : held ≤ others
 
-abbrev pub Lowers : List ℕ → ℕ → ℕ → ℕ → ℕ → ℕ → Type 0
-Lowers w first number held delta r = (g : Lowering w first number held delta) → r ≡ leastDelta (g .walk .list)
+abbrev pub RaisesPhi : List ℕ → ℕ → ℕ → ℕ → ℕ → ℕ → Type 0
+RaisesPhi w first number held delta r = (g : PhiRaisable w first number held delta) → r ≡ leastDelta (g .walk .list)
 
 -- One of them has a new phi; with its old one the others gave the delta that the node above them had
-pub record Adding (w : List ℕ) (first held was phi : ℕ) : Type 0 where
+pub record DeltaRaisable (w : List ℕ) (first held was phi : ℕ) : Type 0 where
   pub view : View Position
   pub walk : Walkable view w first
   pub others : ℕ
   pub sum-is : sumPhi (walk .list) ≡ phi + others
   pub held-is : held ≡ min (was + others) u32-max
 
-abbrev pub Adds : List ℕ → ℕ → ℕ → ℕ → ℕ → ℕ → Type 0
-Adds w first held was phi r = (g : Adding w first held was phi) → r ≡ min (sumPhi (g .walk .list)) u32-max
+abbrev pub RaisesDelta : List ℕ → ℕ → ℕ → ℕ → ℕ → ℕ → Type 0
+RaisesDelta w first held was phi r = (g : DeltaRaisable w first held was phi) → r ≡ min (sumPhi (g .walk .list)) u32-max
 
 abbrev pub zeros : ℕ → ℕ  -- 1 for 0, and 0 for any other number
 zeros n = cond (eqb n 0) 1 0

@@ -23,7 +23,7 @@ use Rattle.words.specs.States.{holds-up}
 use Rattle.prover.specs.declared.Prover.{Prover}
 use Rattle.prover.specs.Stands.{Positions, Stands}
 use Rattle.climb.specs.declared.Ascent.{Ascent}
-use Rattle.climb.specs.Asks.{zeros, Recomputable, Lowering, Lowers, Adding, Adds, climbed, Climbable, Going, Ascending, Stored, Way, Raisable, Raised, Raises, Ascended}
+use Rattle.climb.specs.Asks.{zeros, Recomputable, PhiRaisable, RaisesPhi, DeltaRaisable, RaisesDelta, climbed, Climbable, Going, Ascending, Stored, Way, Raisable, Raised, Raises, Ascended}
 use Rattle.climb.specs.Changed.{least-apart, sum-apart, least-after, line-after}
 
 zeros-le : (n : ℕ) → zeros n ≤ 1
@@ -66,7 +66,7 @@ starts g =
     }
 
 -- The siblings after the one with the new delta
-unfoldable pub later : {w : List ℕ} {first number held delta : ℕ} (g : Lowering w first number held delta) (next : ℕ) → next ≡ word w number SIBLING → Recomputable w next
+unfoldable pub later : {w : List ℕ} {first number held delta : ℕ} (g : PhiRaisable w first number held delta) (next : ℕ) → next ≡ word w number SIBLING → Recomputable w next
 later g next e = record { view = g .view; walk = record { list = g .rest .list; part = rw e (g .rest .part); few = g .rest .few } }
 
 -- The node above, as ascend needs it
@@ -121,7 +121,7 @@ module _ (w path : List ℕ) (x : Prover) (number old phi delta : ℕ) (g : Rais
           few = omega (arith, walk .few, size-append (g .up .before) (child (g .node) (g .below) (g .up .after)));
         }
 
-    pub raised-least : (held : ℕ) → held ≡ word w (getD path (x .depth - 1) 0) PHI → Lowering w first number held delta
+    pub raised-least : (held : ℕ) → held ≡ word w (getD path (x .depth - 1) 0) PHI → PhiRaisable w first number held delta
     unfolding shallower all walk after
     raised-least held e = record {
       view = view (game (g .rule) (g .side));
@@ -134,7 +134,7 @@ module _ (w path : List ℕ) (x : Prover) (number old phi delta : ℕ) (g : Rais
       low = omega (arith, raised .tree .tree .node .phi-is, g .kept .mid .phi-is, least-apart (g .was) none (g .up .after) (g .up .before));
     }
 
-    pub raised-sum : (held : ℕ) → held ≡ word w (getD path (x .depth - 1) 0) DELTA → Adding w first held old phi
+    pub raised-sum : (held : ℕ) → held ≡ word w (getD path (x .depth - 1) 0) DELTA → DeltaRaisable w first held old phi
     unfolding shallower all walk
     raised-sum held e = record {
       view = view (game (g .rule) (g .side));
@@ -145,7 +145,7 @@ module _ (w path : List ℕ) (x : Prover) (number old phi delta : ℕ) (g : Rais
     }
 
     pub raises : (held-phi held-delta next-phi next-delta : ℕ) → held-phi ≡ word w (getD path (x .depth - 1) 0) PHI → held-delta ≡ word w (getD path (x .depth - 1) 0) DELTA
-        → Lowers w first number held-phi delta next-phi → Adds w first held-delta old phi next-delta
+        → RaisesPhi w first number held-phi delta next-phi → RaisesDelta w first held-delta old phi next-delta
         → Raised w path x number old phi delta g (record { going = true; phi = next-phi; delta = next-delta; prover = record { depth = x .depth - 1; pool = x .pool; proved = x .proved; disproved = x .disproved; expanded = x .expanded } })
     unfolding shallower all walk raised-least raised-sum
     raises held-phi held-delta next-phi next-delta p d f s = record { going-is = refl; stands = raised; phi-is = f (raised-least held-phi p); delta-is = s (raised-sum held-delta d) }

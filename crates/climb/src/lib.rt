@@ -7,7 +7,7 @@ ghost use lib.Dec.{eqb};
 ghost use lib.ListN.{length};
 ghost use Rattle.words.specs.Words.{PHI, DELTA, word, Slot};
 ghost use Rattle.words.specs.Freeing.{plies};
-ghost use Rattle.climb.specs.Asks.{Recomputable, Recomputes, Finds, Lowering, Lowers, Adding, Adds, zeros, Counted, Climbable, Climbs, Ascending, Stores, Raisable, Raises, Ascends};
+ghost use Rattle.climb.specs.Asks.{Recomputable, Recomputes, Finds, PhiRaisable, RaisesPhi, DeltaRaisable, RaisesDelta, zeros, Counted, Climbable, Climbs, Ascending, Stores, Raisable, Raises, Ascends};
 use node_pool::NodeID;
 use node_pool::PLIES;
 use node_pool::Pool;
@@ -58,8 +58,8 @@ fn has_delta(words: &[u32], first: NodeID, delta: u32) -> bool
 // The phi of a node that had the phi `held`, where one of its children has a new delta. Step 2 takes the first child with
 // the delta `held`: if there is still one, it comes later.
 fn raised_phi(words: &[u32], first: NodeID, child: NodeID, held: u32, delta: u32) -> u32
-    requires { ⌜ Lowering (now words) (first .0) (child .0) held delta ⌝ }
-    ensures { λ r. ⌜ Lowers (now (words .entry)) (first .0) (child .0) held delta r ⌝ }
+    requires { ⌜ PhiRaisable (now words) (first .0) (child .0) held delta ⌝ }
+    ensures { λ r. ⌜ RaisesPhi (now (words .entry)) (first .0) (child .0) held delta r ⌝ }
 {
     if delta <= held {
         return delta;
@@ -75,8 +75,8 @@ fn raised_phi(words: &[u32], first: NodeID, child: NodeID, held: u32, delta: u32
 // The delta of a node that had the delta `held`, where one of its children had the phi `was` and has a new one. Where the
 // sum was held at the largest number, it is summed anew.
 fn raised_delta(words: &[u32], first: NodeID, held: u32, was: u32, phi: u32) -> u32
-    requires { ⌜ Adding (now words) (first .0) held was phi ⌝ }
-    ensures { λ r. ⌜ Adds (now (words .entry)) (first .0) held was phi r ⌝ }
+    requires { ⌜ DeltaRaisable (now words) (first .0) held was phi ⌝ }
+    ensures { λ r. ⌜ RaisesDelta (now (words .entry)) (first .0) held was phi r ⌝ }
 {
     if held == prove::MOST {
         let bounds = recompute(words, first);

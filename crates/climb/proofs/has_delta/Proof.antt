@@ -1,19 +1,17 @@
--- `climb::has_delta` meets its contract: what is left of the list has no delta below the whole list's least. Rests on Changed.
-use mathlib.Core.Path.{_≡_, sym}
-use mathlib.Core.Bool.{true≢false}
-use native.Mathlib.Omega.{arith}
+-- `climb::has_delta` meets its contract: the delta is found in what is left of the list exactly if it is in the whole list. Rests on Changed.
+use mathlib.Core.Path.{_≡_, sym, _∙_}
 use Rattle.machine.specs.Place.{pool-max}
 use Rattle.words.specs.Words.{NONE}
 use Rattle.words.specs.Walks.{siblings, Standing, standing}
-use Rattle.node_pool.specs.Exists.{exists-yes}
+use Rattle.node_pool.specs.Exists.{exists-yes, exists-no}
 use Rattle.climb.specs.Asks.{Recomputable}
-use Rattle.climb.specs.Changed.{Passing, passing-start, passing-at}
+use Rattle.climb.specs.Changed.{Passing, passing-start, passing-found, passing-next, passing-end}
 use borrow.Author.Needs.{needs}
 use Rattle.climb.proofs.has_delta.Statement.{statement}
 use Rattle.climb.proofs.has_delta.Tie as tie
 
 abbrev Inv-loop : tie.InvT-loop
-Inv-loop words delta id₀ id = (g : Recomputable words (id₀ .0)) → Passing (g .view) words (id₀ .0) (g .walk) (id .0)
+Inv-loop words delta id₀ id = (g : Recomputable words (id₀ .0)) → Passing (g .view) words (id₀ .0) delta (g .walk) (id .0)
 
 abbrev μ-loop : tie.MeasureT-loop
 μ-loop words delta id₀ id = siblings pool-max words (id .0)
@@ -28,7 +26,7 @@ here c =
     standing (g .view) _ _ (c .before .before .loop .inv g .rest) (some c)
 
 loop-holds : tie.Need-loop-holds Inv-loop μ-loop
-loop-holds c = λ g. passing-start (g .view) _ _ (g .walk)
+loop-holds c = λ g. passing-start (g .view) _ _ _ (g .walk)
 
 exists-requires : tie.Need-exists-requires Inv-loop μ-loop
 exists-requires c κs = search needs
@@ -38,9 +36,8 @@ delta-requires c κs = here c .slot
 
 returns : tie.Need-returns Inv-loop μ-loop
 returns c =
-    λ e g.
     let t = c .before .before in
-    omega (arith, passing-at (g .view) _ _ (g .walk) _ (some t) (t .before .before .loop .inv g) .0, c .before .delta .ensures, c .if2 .taken)
+    λ g. passing-found (g .view) _ _ _ (g .walk) _ (some t) (sym (c .before .delta .ensures) ∙ c .if2 .taken) (t .before .before .loop .inv g)
 
 sibling-requires : tie.Need-sibling-requires Inv-loop μ-loop
 sibling-requires c κs = here (c .before .before) .slot
@@ -51,10 +48,10 @@ loop-less c = rw (c .sibling .ensures) (here (c .before .before .before) .fewer)
 loop-again : tie.Need-loop-again Inv-loop μ-loop
 loop-again c =
     let t = c .before .before .before in
-    λ g. rw (c .sibling .ensures) (passing-at (g .view) _ _ (g .walk) _ (some t) (t .before .before .loop .inv g) .1)
+    λ g. rw (c .sibling .ensures) (passing-next (g .view) _ _ _ (g .walk) _ (some t) (λ e. c .before .if2 .left (c .before .before .delta .ensures ∙ e)) (t .before .before .loop .inv g))
 
 returns-2 : tie.Need-returns-2 Inv-loop μ-loop
-returns-2 c = λ e g. absurd (true≢false (sym e))
+returns-2 c = λ g. passing-end (g .view) _ _ _ (g .walk) _ (exists-no _ _ (c .before .exists .ensures) (c .if1 .left)) (c .before .before .loop .inv g)
 
 pub has-delta-spec : {M : Type 1} → statement M
 has-delta-spec =

@@ -1,5 +1,7 @@
 -- `climb::raised_phi` meets its contract: by cases on where the least delta is. Rests on has_delta and recompute.
+use mathlib.Core.Path.{sym, _∙_}
 use native.Mathlib.Omega.{arith}
+use Rattle.climb.specs.Changed.{found-least}
 use Rattle.climb.specs.Turns.{later}
 use borrow.Author.Needs.{needs}
 use Rattle.climb.proofs.raised_phi.Statement.{statement}
@@ -19,7 +21,7 @@ unfolding later
 returns-2 c =
     λ g.
     let d = c .before in
-    omega (arith, d .has-delta .ensures (c .if2 .taken) (later g _ (d .before .sibling .ensures)), d .before .before .if1 .left, g .among, g .least-is)
+    omega (arith, found-least _ _ (sym (d .has-delta .ensures (later g _ (d .before .sibling .ensures))) ∙ c .if2 .taken), d .before .before .if1 .left, g .among, g .least-is)
 
 recompute-requires : tie.Need-recompute-requires
 recompute-requires c κs = search needs
