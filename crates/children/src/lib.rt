@@ -44,7 +44,7 @@ impl Outer {
         Outer {
             won,
             done,
-            target: words[base + 21],
+            target: game::target(words, base),
             side,
         }
     }
@@ -97,7 +97,7 @@ pub fn count_moves(words: &[u16], base: usize) -> u32
     ensures { λ r. ⌜ ((p : Position) → Holds p (now (words .entry)) base → gameState p ≡ 0 → r ≡ length (legalMoves p)) ⌝ }
 {
     let done = game::done_bits(words, base);
-    let target = words[base + 21] as usize;
+    let target = game::target(words, base) as usize;
     match target {
         0..=8 => board_moves(words, base, done, target),
         15 => free_moves(words, base, done),
@@ -164,7 +164,7 @@ pub fn state_after(
     GameState::InPlay
 }
 
-// What the child by cell c of board b is worth to the root's side.
+// What the child by cell c of board b is worth to the attacker, the root's side.
 pub fn child_value(
     table: &[u8; 512],
     o: Outer,
@@ -173,13 +173,13 @@ pub fn child_value(
     b: usize,
     c: usize,
     rule: u64,
-    root: usize,
+    attacker: usize,
 ) -> Evaluation
     requires { ⌜ (now table ≡ lineTable) × ((p : Position) × ChildOf p o mine taken b c) ⌝ }
-    ensures { λ r. ⌜ ((p : Position) → ChildOf p o mine taken b c → verdict r ≡ view (game rule (playerOf root)) .value (play p (moveOf b c))) ⌝ }
+    ensures { λ r. ⌜ ((p : Position) → ChildOf p o mine taken b c → verdict r ≡ view (game rule (playerOf attacker)) .value (play p (moveOf b c))) ⌝ }
 {
     let state = state_after(table, o, mine, taken, b, c);
-    evaluate::evaluate(rule, root, 1 - o.side, state)
+    evaluate::evaluate(rule, attacker, 1 - o.side, state)
 }
 
 // What an accepted position is worth to its own side to move.

@@ -73,8 +73,8 @@ module _ (w path : List ℕ) (x : Prover) (phi delta : ℕ) (g : Ascending w pat
   again : Renumbered w v₁ i (leastDelta (s .below)) (min (sumPhi (s .below)) u32-max)
   again = rw (g .going .phi-is, g .going .delta-is) at (renumbered w v₁ i phi delta (g .going .stands .tree .tree .node .slot) set)
 
-  holding : Holding K v₁ path (x .depth) (x .pool .free .0) (x .pool .used) (s .above) n (s .below) none NONE
-  holding = holding-renumbered G K w path (x .depth) (x .pool .free .0) (x .pool .used) (s .above) (s .node) (s .below) (g .going .stands .tree .tree) v₁ again
+  holding : Holding K v₁ path (x .depth) (x .pool .head .0) (x .pool .used) (s .above) n (s .below) none NONE
+  holding = holding-renumbered G K w path (x .depth) (x .pool .head .0) (x .pool .used) (s .above) (s .node) (s .below) (g .going .stands .tree .tree) v₁ again
 
   line : Positions (g .ps) (x .depth) (s .above) n
   unfolding renumber
@@ -85,7 +85,7 @@ module _ (w path : List ℕ) (x : Prover) (phi delta : ℕ) (g : Ascending w pat
 
   held-stored : (b : Bool) → solved n ≡ b → (v : List ℕ) (head freed : ℕ) → Holding K v path (x .depth) head (x .pool .used) (s .above) n (cond b none (s .below)) none NONE → freed ≡ x .pool .freed + cond b (size (s .below)) 0
       → Holds K v path (x .depth) head (x .pool .used) (x .pool .allocated) freed (store G (s .counts) (s .above) (s .node) (s .below))
-  held-stored = holds-stored G K w path (x .depth) (x .pool .free .0) (x .pool .used) (x .pool .allocated) (x .pool .freed) (s .counts) (s .above) (s .node) (s .below) (g .going .stands .tree)
+  held-stored = holds-stored G K w path (x .depth) (x .pool .head .0) (x .pool .used) (x .pool .allocated) (x .pool .freed) (s .counts) (s .above) (s .node) (s .below) (g .going .stands .tree)
 
   solved-is : (b : Bool) → b ≡ (eqb phi 0 || eqb delta 0) → solved n ≡ b
   unfolding solved renumber
@@ -100,7 +100,7 @@ module _ (w path : List ℕ) (x : Prover) (phi delta : ℕ) (g : Ascending w pat
       let z = uncounted G n e in
       record {
         stands = record {
-          tree = held-stored false e v₁ (x .pool .free .0) (x .pool .freed) holding (omega arith);
+          tree = held-stored false e v₁ (x .pool .head .0) (x .pool .freed) holding (omega arith);
           positions = line;
           proved-is = omega (arith, h .proved-is, z .0);
           disproved-is = omega (arith, h .disproved-is, z .1);
@@ -120,16 +120,16 @@ module _ (w path : List ℕ) (x : Prover) (phi delta : ℕ) (g : Ascending w pat
     cut-off : words.Stored v₁ v₂ i FIRST NONE
     cut-off = rw end-is at (words.stored v₁ v₂ i FIRST end (holding .node .slot) (omega arith) cut)
 
-    bare : Holding K v₂ path (x .depth) (x .pool .free .0) (x .pool .used) (s .above) n none (s .below) (first .0)
+    bare : Holding K v₂ path (x .depth) (x .pool .head .0) (x .pool .used) (s .above) n none (s .below) (first .0)
     bare =
         rw (first-is ∙ again .beside FIRST (omega arith))
-        (holding-cut G K w path (x .depth) (x .pool .free .0) (x .pool .used) (s .above) (s .node) (s .below) (g .going .stands .tree .tree) v₁ again v₂ cut-off)
+        (holding-cut G K w path (x .depth) (x .pool .head .0) (x .pool .used) (s .above) (s .node) (s .below) (g .going .stands .tree .tree) v₁ again v₂ cut-off)
 
     owed : x .pool .freed + size (s .below) ≤ x .pool .allocated
     owed = let t = g .going .stands .tree in omega (arith, t .balance, t .allocated-is, t .freed-is)
 
-    pub freeable : Freeable Position v₂ (first .0) (x .pool .free .0) (x .pool .freed) (x .pool .allocated)
-    freeable = loose-freeable K v₂ path (x .depth) (x .pool .free .0) (x .pool .used) (s .above) n none (s .below) (first .0) bare (x .pool .freed) (x .pool .allocated) owed
+    pub freeable : Freeable Position v₂ (first .0) (x .pool .head .0) (x .pool .freed) (x .pool .allocated)
+    freeable = loose-freeable K v₂ path (x .depth) (x .pool .head .0) (x .pool .used) (s .above) n none (s .below) (first .0) bare (x .pool .freed) (x .pool .allocated) owed
 
     -- They are freed, and it is counted
     pub solved-stored : (b : Bool) → b ≡ (eqb phi 0 || eqb delta 0) → b ≡ true → (bits : ℕ) → bits ≡ word v₁ i PACKED → (and : Bool) → and ≡ eqb (andIn bits) 1
@@ -139,10 +139,10 @@ module _ (w path : List ℕ) (x : Prover) (phi delta : ℕ) (g : Ascending w pat
         let h = g .going .stands in
         let e = solved-is b t ∙ f in
         let flag = by-flag G n bits and (holding .node .byte) (bits-are ∙ holding .node .packed-is) and-is phi delta (g .going .phi-is) (g .going .delta-is) in
-        let empty = loose-freed K v₂ path (x .depth) (x .pool .free .0) (x .pool .used) (s .above) n none (s .below) (first .0) bare (x .pool .freed) (x .pool .allocated) owed v (pool .free .0) (pool .freed) (all .freed) in
+        let empty = loose-freed K v₂ path (x .depth) (x .pool .head .0) (x .pool .used) (s .above) n none (s .below) (first .0) bare (x .pool .freed) (x .pool .allocated) owed v (pool .head .0) (pool .freed) (all .freed) in
         record {
           stands = record {
-            tree = rw (c .depth-is, c .pool-is, all .used-is, all .allocated-is) (held-stored true e v (pool .free .0) (pool .freed) empty (all .freed .all));
+            tree = rw (c .depth-is, c .pool-is, all .used-is, all .allocated-is) (held-stored true e v (pool .head .0) (pool .freed) empty (all .freed .all));
             positions = rw (c .depth-is) line;
             proved-is = omega (arith, h .proved-is, c .proved-is, ap zeros (flag .0));
             disproved-is = omega (arith, h .disproved-is, c .disproved-is, ap zeros (flag .1));

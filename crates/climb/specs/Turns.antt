@@ -84,13 +84,13 @@ module _ (w path : List ℕ) (x : Prover) (number old phi delta : ℕ) (g : Rais
   unfolding shallower all
   raised = go (x .depth) refl (g .stands .tree) (g .stands .positions)
     where
-      go : (d : ℕ) → x .depth ≡ d → Holds (view (game (g .rule) (g .side))) w path d (x .pool .free .0) (x .pool .used) (x .pool .allocated) (x .pool .freed) (state (g .counts) (g .up ∷ g .above) (g .node) (g .below))
+      go : (d : ℕ) → x .depth ≡ d → Holds (view (game (g .rule) (g .side))) w path d (x .pool .head .0) (x .pool .used) (x .pool .allocated) (x .pool .freed) (state (g .counts) (g .up ∷ g .above) (g .node) (g .below))
           → Positions (g .ps) d (g .up ∷ g .above) (g .node) → Stands (g .rule) (g .side) w path (g .ps) (shallower x) (state (g .counts) (g .above) (g .up .node) all)
       go zero e t p = absurd p
       go (suc d) e t p =
           let q : d ≡ x .depth - 1 = omega arith in
           record {
-            tree = rw q at (holds-up (view (game (g .rule) (g .side))) w path (x .pool .free .0) (x .pool .used) (x .pool .allocated) (x .pool .freed) (g .counts) d (g .up) (g .above) (g .node) (g .below) t);
+            tree = rw q at (holds-up (view (game (g .rule) (g .side))) w path (x .pool .head .0) (x .pool .used) (x .pool .allocated) (x .pool .freed) (g .counts) d (g .up) (g .above) (g .node) (g .below) t);
             positions = rw q at (p .1);
             proved-is = g .stands .proved-is;
             disproved-is = g .stands .disproved-is;

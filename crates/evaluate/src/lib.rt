@@ -1,4 +1,5 @@
-// What a finished position is worth, ported from `evaluate` of pn.rs: for the root, for children and for the referee.
+// What a finished position is worth, ported from `evaluate` of pn.rs: for the root, for children and for the referee. The attacker is the root's side: True is
+// its value.
 
 ghost use mathlib.Core.Path.{_≡_};
 ghost use mathlib.Core.Bool.{cond};
@@ -20,12 +21,12 @@ fn same_side(a: usize, b: usize) -> bool
     if a == 0 { b == 0 } else { b != 0 }
 }
 
-// Whether a drawn position is True for the root's side. Rule 0 has it lost by its own side to move, rule 1 has it False, rule 2 True.
-fn drawn_value(rule: u64, root: usize, side: usize) -> bool
-    ensures { λ r. ⌜ r ≡ drawn rule (playerOf root) (playerOf side) ⌝ }
+// Whether a drawn position is True for the attacker. Rule 0 has it lost by its own side to move, rule 1 has it False, rule 2 True.
+fn drawn_value(rule: u64, attacker: usize, side: usize) -> bool
+    ensures { λ r. ⌜ r ≡ drawn rule (playerOf attacker) (playerOf side) ⌝ }
 {
     match rule {
-        0 => !same_side(root, side),
+        0 => !same_side(attacker, side),
         1 => false,
         _ => true,
     }
@@ -42,14 +43,14 @@ fn known(value: bool) -> Evaluation
     }
 }
 
-// Unknown in play, and otherwise the value for the root's side.
-pub fn evaluate(rule: u64, root: usize, side: usize, state: GameState) -> Evaluation
-    ensures { λ r. ⌜ verdict r ≡ stateVerdict rule (playerOf root) (playerOf side) (stateNumber state) ⌝ }
+// Unknown in play, and otherwise the value for the attacker.
+pub fn evaluate(rule: u64, attacker: usize, side: usize, state: GameState) -> Evaluation
+    ensures { λ r. ⌜ verdict r ≡ stateVerdict rule (playerOf attacker) (playerOf side) (stateNumber state) ⌝ }
 {
     match state {
         GameState::InPlay => Evaluation::Unknown,
-        GameState::Drawn => known(drawn_value(rule, root, side)),
-        GameState::Won(p) => known(same_side(root, p.as_bit())),
+        GameState::Drawn => known(drawn_value(rule, attacker, side)),
+        GameState::Won(p) => known(same_side(attacker, p.as_bit())),
     }
 }
 
@@ -59,14 +60,14 @@ pub fn evaluate_at(
     words: &[u16],
     base: usize,
     rule: u64,
-    root: usize,
+    attacker: usize,
 ) -> Evaluation
     requires { ⌜ (now table ≡ lineTable) × Held (now words) base ⌝ }
-    ensures { λ r. ⌜ ((p : Position) → Holds p (now (words .entry)) base → verdict r ≡ positionVerdict rule (playerOf root) p) ⌝ }
+    ensures { λ r. ⌜ ((p : Position) → Holds p (now (words .entry)) base → verdict r ≡ positionVerdict rule (playerOf attacker) p) ⌝ }
 {
     evaluate(
         rule,
-        root,
+        attacker,
         game::side_to_move(words, base),
         game::game_state(table, words, base),
     )

@@ -32,7 +32,7 @@ pub record ParentOf (l : Leaf) (o : Outer) (p : Parent) : Type 0 where
   pub outer : OuterOf (l .node .pos) o
   pub unfinished : gameState (l .node .pos) ≡ 0
   pub rule-is : p .rule ≡ l .rule
-  pub root-is : p .root ≡ sideBit (l .root)
+  pub root-is : p .attacker ≡ sideBit (l .root)
   pub and-is : p .and ≡ not (view (gameAt l) .and (l .node .pos))
 
 -- A board on which the mover may play, and its cells
@@ -147,13 +147,13 @@ module _ (w : List ℕ) (o : Outer) (p : Parent) (mine taken b : ℕ) (m : Made)
     ending-done n (inr e) = progress-ended e (movesFrom (g .leaf .node .pos) (b * 9 + 9)) h
 
     module _ (x : ℕ) (v : Verdict) (lc : c < 9) (e : hasBit taken c ≡ false) (n : m₁ .ended ≡ false) (ex : x ≡ moveOf b c)
-        (ev : (q : Position) → ChildOf q o mine taken b c → v ≡ view (game (p .rule) (playerOf (p .root))) .value (play q (moveOf b c))) where
+        (ev : (q : Position) → ChildOf q o mine taken b c → v ≡ view (game (p .rule) (playerOf (p .attacker))) .value (play q (moveOf b c))) where
       -- The child's evaluation is the game's
       pub valued : v ≡ view (gameAt (g .leaf)) .value (play (g .leaf .node .pos) (moveOf b c))
       valued =
           let q = play (g .leaf .node .pos) (moveOf b c) in
           ev (g .leaf .node .pos) (cell-child (g .leaf) o p b mine taken c (g .of-leaf) (g .board) lc e)
-          ∙ ap (λ (r : ℕ). view (game r (playerOf (p .root))) .value q) (g .of-leaf .rule-is)
+          ∙ ap (λ (r : ℕ). view (game r (playerOf (p .attacker))) .value q) (g .of-leaf .rule-is)
           ∙ ap (λ (s : Player). view (game (g .leaf .rule) s) .value q) (ap playerOf (g .of-leaf .root-is) ∙ side-back (g .leaf .root))
 
       unfoldable pub ending-asks : Addable w₁ m₁ x v (p .and)

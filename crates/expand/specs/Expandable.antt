@@ -44,8 +44,8 @@ abbrev pub Expands : List ℕ → List ℕ → List ℕ → Prover → ℕ → �
 Expands w path ps x rule root v r = (g : Expandable w path ps x rule root) → Expansion rule (g .side) (g .at) w path ps v r
 
 -- No child is made
-pub record NoneMade (free used : ℕ) (m : Made) : Type 0 where
-  pub free-is : m .free .0 ≡ free
+pub record NoneMade (head used : ℕ) (m : Made) : Type 0 where
+  pub head-is : m .head .0 ≡ head
   pub used-is : m .used ≡ used
   pub made-is : m .made ≡ 0
   pub last-is : m .last .0 ≡ NONE
@@ -57,7 +57,7 @@ pub record NoneMade (free used : ℕ) (m : Made) : Type 0 where
 abbrev pub counted : Prover → Made → Prover
 counted x m = record {
   depth = x .depth;
-  pool = record { free = m .free; used = m .used; allocated = x .pool .allocated + m .made; freed = x .pool .freed };
+  pool = record { head = m .head; used = m .used; allocated = x .pool .allocated + m .made; freed = x .pool .freed };
   proved = x .proved;
   disproved = x .disproved;
   expanded = x .expanded + 1;

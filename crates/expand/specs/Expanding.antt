@@ -57,8 +57,11 @@ module _ (w path ps : List ℕ) (x : Prover) (rule root : ℕ) (g : Expandable w
   leafAt = record { rule = rule; root = g .side; path = path; depth = x .depth; above = g .at .above; node = g .at .node; words = w }
 
   -- The leaf's position, whose game is in play
-  pub leaf-stands : Holds p ps (x .depth * 24)
+  leaf-stands : Holds p ps (x .depth * 24)
   leaf-stands = here ps (x .depth) (g .at .above) n (g .stands .positions)
+
+  pub leaf-at : (b : ℕ) → b ≡ x .depth * 24 → Holds p ps b
+  leaf-at b e = subst (λ (k : ℕ). Holds p ps k) (sym e) leaf-stands
 
   pub unfinished : gameState p ≡ 0
   unfinished = legal p (g .move) (in-legal p (g .move) (g .legal)) .unfinished
@@ -73,16 +76,16 @@ module _ (w path ps : List ℕ) (x : Prover) (rule root : ℕ) (g : Expandable w
       ap (λ (i : ℕ). eqb (andIn i) 1) (e ∙ h .packed-is) ∙ ap (λ (i : ℕ). eqb i 1) (packed-read K n (h .byte) .and-is) ∙ flag-of (K .and p)
 
   -- No child is made
-  module _ (m : Made) (z : NoneMade (x .pool .free .0) (x .pool .used) m) where
+  module _ (m : Made) (z : NoneMade (x .pool .head .0) (x .pool .used) m) where
     abbrev Bare : Children Position → ℕ → ℕ → ℕ → Type 0
-    Bare ks free used last = Holding K w path (x .depth) free used (g .at .above) n ks none last
+    Bare ks head used last = Holding K w path (x .depth) head used (g .at .above) n ks none last
 
-    held : Bare none (m .free .0) (m .used) (m .last .0)
+    held : Bare none (m .head .0) (m .used) (m .last .0)
     held =
-        subst (λ (ks : Children Position). Bare ks (m .free .0) (m .used) (m .last .0)) (g .bare)
-        (subst (λ (i : ℕ). Bare (g .at .below) i (m .used) (m .last .0)) (sym (z .free-is))
-        (subst (λ (i : ℕ). Bare (g .at .below) (x .pool .free .0) i (m .last .0)) (sym (z .used-is))
-        (subst (λ (i : ℕ). Bare (g .at .below) (x .pool .free .0) (x .pool .used) i) (sym (z .last-is)) (g .stands .tree .tree))))
+        subst (λ (ks : Children Position). Bare ks (m .head .0) (m .used) (m .last .0)) (g .bare)
+        (subst (λ (i : ℕ). Bare (g .at .below) i (m .used) (m .last .0)) (sym (z .head-is))
+        (subst (λ (i : ℕ). Bare (g .at .below) (x .pool .head .0) i (m .last .0)) (sym (z .used-is))
+        (subst (λ (i : ℕ). Bare (g .at .below) (x .pool .head .0) (x .pool .used) i) (sym (z .last-is)) (g .stands .tree .tree))))
 
     pub none-made : Progress leafAt w m (movesFrom p 0)
     unfolding size leastDelta sumPhi live children
@@ -100,12 +103,12 @@ module _ (w path ps : List ℕ) (x : Prover) (rule root : ℕ) (g : Expandable w
     }
 
     -- k is the leaf's packed word
-    unfoldable pub unmade : (o : Outer) (q : Parent) (k : ℕ) → OuterOf p o → q .base ≡ x .depth * 24 → q .rule ≡ rule → q .root ≡ root → q .and ≡ not (eqb (andIn k) 1) → k ≡ word w id PACKED
+    unfoldable pub unmade : (o : Outer) (q : Parent) (k : ℕ) → OuterOf p o → q .base ≡ x .depth * 24 → q .rule ≡ rule → q .attacker ≡ root → q .and ≡ not (eqb (andIn k) 1) → k ≡ word w id PACKED
         → Unmade w ps o q m
     unmade o q k r eb er es ea ek = record {
       leaf = leafAt;
       of-leaf = record { outer = r; unfinished = unfinished; rule-is = er; root-is = es ∙ g .root-is; and-is = ea ∙ ap not (and-read k ek) };
-      stands = subst (λ (b : ℕ). Holds p ps b) (sym eb) leaf-stands;
+      stands = leaf-at (q .base) eb;
       move = g .move;
       legal = in-legal p (g .move) (g .legal);
       going = z .ended-is;
@@ -139,16 +142,16 @@ module _ (w path ps : List ℕ) (x : Prover) (rule root : ℕ) (g : Expandable w
       linked : Stored w₂ v id FIRST (m .last .0)
       linked = stored w₂ v id FIRST (m .last .0) (slot-long (marked .only .long) leaf-slot) (omega arith) e
 
-      tree-then : Holding K v path (x .depth) (m .free .0) (m .used) (g .at .above) (opened G n) (children G p) none NONE
+      tree-then : Holding K v path (x .depth) (m .head .0) (m .used) (g .at .above) (opened G n) (children G p) none NONE
       tree-then =
-          subst (λ (ks : Children Position). Holding K v path (x .depth) (m .free .0) (m .used) (g .at .above) (opened G n) ks none NONE) all-made
-          (holding-opened G K w₁ path (x .depth) (m .free .0) (m .used) (g .at .above) n (h .made) (m .last .0) (h .held) (g .shut) w₂ v marked linked)
+          subst (λ (ks : Children Position). Holding K v path (x .depth) (m .head .0) (m .used) (g .at .above) (opened G n) ks none NONE) all-made
+          (holding-opened G K w₁ path (x .depth) (m .head .0) (m .used) (g .at .above) n (h .made) (m .last .0) (h .held) (g .shut) w₂ v marked linked)
 
       stands-then : Stands rule (g .side) v path ps (counted x m) (expand G (g .at))
       unfolding expand opened
       stands-then = record {
         tree =
-            holds-expanded G K w path (x .depth) (x .pool .free .0) (x .pool .used) (x .pool .allocated) (x .pool .freed) (g .at) (g .stands .tree) (g .bare) v (m .free .0) (m .used)
+            holds-expanded G K w path (x .depth) (x .pool .head .0) (x .pool .used) (x .pool .allocated) (x .pool .freed) (g .at) (g .stands .tree) (g .bare) v (m .head .0) (m .used)
             (x .pool .allocated + m .made) tree-then (ap (λ (k : ℕ). x .pool .allocated + k) (h .made-is ∙ ap (size {Pos = Position}) all-made));
         positions = positions-same ps (x .depth) (g .at .above) n (opened G n) refl (g .stands .positions);
         proved-is = g .stands .proved-is;

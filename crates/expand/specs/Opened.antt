@@ -21,7 +21,7 @@ use Rattle.expand.specs.Progress.{Leaf, Progress, Addable, Added, add-as
 -- The children of m, and the open ones made since
 abbrev pub counting : Opened → Made → Made
 counting t m = record {
-  free = t .free;
+  head = t .head;
   used = t .used;
   made = t .made;
   last = t .last;
@@ -31,7 +31,7 @@ counting t m = record {
 }
 
 -- None yet
-pub counting-start : (l : Leaf) (w ms : List ℕ) (m : Made) → Progress l w m ms → counting (record { free = m .free; used = m .used; made = m .made; last = m .last }) m ≡ m
+pub counting-start : (l : Leaf) (w ms : List ℕ) (m : Made) → Progress l w m ms → counting (record { head = m .head; used = m .used; made = m .made; last = m .last }) m ≡ m
 counting-start l w ms m h =
     let none : m .made - m .made ≡ 0 = omega arith in
     let phi : cond (eqb (m .made - m .made) 0) (m .phi) (min (m .phi) 1) ≡ m .phi = rw (eq-eqb (m .made - m .made) 0 none) in
@@ -52,12 +52,12 @@ module _ (w : List ℕ) (t : Opened) (x : ℕ) (and : Bool) (m : Made) (g : Adda
       go false = omega arith
 
   pub open-added : (k : ℕ) (w′ : List ℕ) (a : AllocedNode) → k ≡ pack (verdictNumber Unknown) 0 (bit and) 0 x
-      → Alloced w (t .free) (t .used) (add-asks w (counting t m) x Unknown and g) bounds k (t .last) w′ a
-      → r .free .0 ≡ a .free .0 → r .used ≡ a .used → r .last .0 ≡ a .id .0 → Added (g .leaf) x (g .rest) w′ (counting r m)
+      → Alloced w (t .head) (t .used) (add-asks w (counting t m) x Unknown and g) bounds k (t .last) w′ a
+      → r .head .0 ≡ a .head .0 → r .used ≡ a .used → r .last .0 ≡ a .id .0 → Added (g .leaf) x (g .rest) w′ (counting r m)
   open-added k w′ a ek f ef eu el =
       added w (counting t m) x Unknown and g bounds k w′ a (leaf-bounds Unknown and (bounds .phi) (bounds .delta) one) ek f (counting r m)
       (record {
-        free-is = ef;
+        head-is = ef;
         used-is = eu;
         made-is = more;
         last-is = el;

@@ -48,7 +48,7 @@ toCome false ms = ms
 
 pub record Progress (l : Leaf) (w : List ℕ) (m : Made) (ms : List ℕ) : Type 0 where
   pub made : Children Position
-  pub held : Holding (view (gameAt l)) w (l .path) (l .depth) (m .free .0) (m .used) (l .above) (l .node) none made (m .last .0)
+  pub held : Holding (view (gameAt l)) w (l .path) (l .depth) (m .head .0) (m .used) (l .above) (l .node) none made (m .last .0)
   pub phi-is : m .phi ≡ leastDelta made
   pub delta-is : m .delta ≡ min (sumPhi made) u32-max
   pub made-is : m .made ≡ size made
@@ -115,7 +115,7 @@ pub record Addable (w : List ℕ) (m : Made) (x : ℕ) (v : Verdict) (and : Bool
 
 -- The state after it, from the node that was allocated with its numbers
 pub record NodeAdded (m : Made) (bounds : Bounds) (a : AllocedNode) (r : Made) : Type 0 where
-  pub free-is : r .free .0 ≡ a .free .0
+  pub head-is : r .head .0 ≡ a .head .0
   pub used-is : r .used ≡ a .used
   pub made-is : r .made ≡ suc (m .made)
   pub last-is : r .last .0 ≡ a .id .0
@@ -154,11 +154,11 @@ module _ (w : List ℕ) (m : Made) (x : ℕ) (v : Verdict) (and : Bool) (g : Add
       omega (arith, h .room, make-more (g .leaf .rule) (g .leaf .root) p x (g .rest) (h .made), ap (size {Pos = Position}) before, h .held .full, h .held .fits)
 
   -- What alloc asks for
-  abbrev pub add-asks : Spare w (m .free .0) (m .used)
-  add-asks = holding-asks (view G) w (g .leaf .path) (g .leaf .depth) (m .free .0) (m .used) (g .leaf .above) (g .leaf .node) none (g .progress .made) (m .last .0) (g .progress .held) one-free
+  abbrev pub add-asks : Spare w (m .head .0) (m .used)
+  add-asks = holding-asks (view G) w (g .leaf .path) (g .leaf .depth) (m .head .0) (m .used) (g .leaf .above) (g .leaf .node) none (g .progress .made) (m .last .0) (g .progress .held) one-free
 
   module _ (bounds : Bounds) (k : ℕ) (w′ : List ℕ) (a : AllocedNode) (n : LeafBounds v and (bounds .phi) (bounds .delta)) (is-packed : k ≡ pack (verdictNumber v) 0 (bit and) 0 x)
-      (f : Alloced w (m .free) (m .used) add-asks bounds k (m .last) w′ a) where
+      (f : Alloced w (m .head) (m .used) add-asks bounds k (m .last) w′ a) where
     numbers : Pair (bounds .phi) (bounds .delta) (new .phi) (new .delta)
     numbers = n (g .leaf .rule) (g .leaf .root) (play p x) x (g .value-is) (g .and-is)
 
@@ -169,11 +169,11 @@ module _ (w : List ℕ) (m : Made) (x : ℕ) (v : Verdict) (and : Bool) (g : Add
         ∙ ap (λ (u : Verdict). pack (verdictNumber u) 0 (bit and) 0 x) (g .value-is)
         ∙ ap (λ (t : Bool). pack (verdictNumber (view G .value (play p x))) 0 (bit t) 0 x) (g .and-is)
 
-    holds : Holding (view G) w′ (g .leaf .path) (g .leaf .depth) (a .free .0) (a .used) (g .leaf .above) (g .leaf .node) none (child new none (g .progress .made)) (a .id .0)
+    holds : Holding (view G) w′ (g .leaf .path) (g .leaf .depth) (a .head .0) (a .used) (g .leaf .above) (g .leaf .node) none (child new none (g .progress .made)) (a .id .0)
     unfolding leaf
     holds =
-        holding-made (view G) w (g .leaf .path) (g .leaf .depth) (m .free .0) (m .used) (g .leaf .above) (g .leaf .node) none (g .progress .made) (m .last .0) (g .progress .held) one-free
-        (a .id .0) (a .free .0) (a .used) (f .number) w′ new (g .byte)
+        holding-made (view G) w (g .leaf .path) (g .leaf .depth) (m .head .0) (m .used) (g .leaf .above) (g .leaf .node) none (g .progress .made) (m .last .0) (g .progress .held) one-free
+        (a .id .0) (a .head .0) (a .used) (f .number) w′ new (g .byte)
         (record {
           only = f .filled .only;
           phi-is = f .filled .phi-is ∙ numbers .phi-is;
@@ -190,8 +190,8 @@ module _ (w : List ℕ) (m : Made) (x : ℕ) (v : Verdict) (and : Bool) (g : Add
     all-still false e = sym (make-next G (lawful (g .leaf .rule) (g .leaf .root)) p x (g .rest) (g .progress .made) e) ∙ before
 
     module _ (r : Made) (t : NodeAdded m bounds a r) where
-      held-then : Holding (view G) w′ (g .leaf .path) (g .leaf .depth) (r .free .0) (r .used) (g .leaf .above) (g .leaf .node) none (child new none (g .progress .made)) (r .last .0)
-      held-then = rw (t .free-is, t .used-is, t .last-is) holds
+      held-then : Holding (view G) w′ (g .leaf .path) (g .leaf .depth) (r .head .0) (r .used) (g .leaf .above) (g .leaf .node) none (child new none (g .progress .made)) (r .last .0)
+      held-then = rw (t .head-is, t .used-is, t .last-is) holds
 
       pub added : Added (g .leaf) x (g .rest) w′ r
       unfolding size leastDelta sumPhi

@@ -43,6 +43,14 @@ module _ (w ps : List ℕ) (o : Outer) (p : Parent) (m : Made) (g : Unmade w ps 
   target-is : (o .target ≡ 15) ⊎ (o .target ≡ boardOf (g .move))
   target-is = led-cases (o .target) (boardOf (g .move)) (rw (g .of-leaf .outer .target-is) (legal (g .leaf .node .pos) (g .move) (g .legal) .led))
 
+  -- and no leaf has another
+  pub no-other : 9 ≤ o .target → (o .target ≡ 15 → ⊥) → ⊥
+  no-other n z = go target-is
+    where
+      go : (o .target ≡ 15) ⊎ (o .target ≡ boardOf (g .move)) → ⊥
+      go (inl e) = z e
+      go (inr e) = absurd (omega (arith, legal (g .leaf .node .pos) (g .move) (g .legal) .board-in))
+
   -- One board
   module _ (l : o .target < 9) where
     pub there : Playing (g .leaf .node .pos) (o .target)

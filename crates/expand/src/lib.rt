@@ -28,10 +28,10 @@ use prove::Bounds;
 use prove::Evaluation;
 use prover::Prover;
 
-// The children made so far: what is free in the pool, how many there are, the last made, and the numbers that they give their parent. Ended: the last made has
+// The children made so far: the head of the freed nodes, how many numbers have been used, how many children there are, the last made, and the numbers that they give their parent. Ended: the last made has
 // delta 0.
 pub struct Made {
-    pub free: NodeID,
+    pub head: NodeID,
     pub used: u32,
     pub made: u32,
     pub last: NodeID,
@@ -41,11 +41,11 @@ pub struct Made {
 }
 
 impl Made {
-    fn nothing(free: NodeID, used: u32) -> Self
-        ensures { λ r. ⌜ NoneMade (free .0) used r ⌝ }
+    fn nothing(head: NodeID, used: u32) -> Self
+        ensures { λ r. ⌜ NoneMade (head .0) used r ⌝ }
     {
         Made {
-            free,
+            head,
             used,
             made: 0,
             last: NodeID::none(),
@@ -56,11 +56,11 @@ impl Made {
     }
 }
 
-// What all children of a leaf share: where its position stands, the rule, the root's side, and whether the other side is to move at them.
+// What all children of a leaf share: where its position stands, the rule, the attacker, who is the root's side, and whether the other side is to move at them.
 pub struct Parent {
     pub base: usize,
     pub rule: u64,
-    pub root: usize,
+    pub attacker: usize,
     pub and: bool,
 }
 
@@ -69,15 +69,15 @@ fn add_child(words: &mut [u32], m: Made, mv: Move, value: Evaluation, and: bool)
     requires { ⌜ Addable (now words) m (mv .0) (verdict value) and ⌝ }
     ensures { λ r. ⌜ Adds (now (words .entry)) m (mv .0) (verdict value) and (now (words .exit)) r ⌝ }
 {
-    let free = m.free;
+    let head = m.head;
     let sibling = m.last;
     let bounds = children::leaf_bounds(value, and);
     let packed = node_pool::pack(value, and, mv);
-    let node = node_pool::alloc(words, free, m.used, bounds, packed, sibling);
-    let rest = node.free;
+    let node = node_pool::alloc(words, head, m.used, bounds, packed, sibling);
+    let rest = node.head;
     let id = node.id;
     Made {
-        free: rest,
+        head: rest,
         used: node.used,
         made: m.made + 1,
         last: id,
@@ -87,9 +87,9 @@ fn add_child(words: &mut [u32], m: Made, mv: Move, value: Evaluation, and: bool)
     }
 }
 
-// What changes while open children are made: what is free in the pool, how many there are, and the last made.
+// What changes while open children are made: the head of the freed nodes, how many numbers have been used, how many children there are, and the last made.
 pub struct Opened {
-    pub free: NodeID,
+    pub head: NodeID,
     pub used: u32,
     pub made: u32,
     pub last: NodeID,
@@ -101,15 +101,15 @@ fn add_open(words: &mut [u32], t: Opened, mv: Move, and: bool) -> Opened
     ensures { λ r. ⌜ OpenAdds (now (words .entry)) t (mv .0) and (now (words .exit)) r ⌝ }
     ensures { λ r. ⌜ r .made ≡ t .made + 1 ⌝ }
 {
-    let free = t.free;
+    let head = t.head;
     let sibling = t.last;
     let packed = node_pool::pack(Evaluation::Unknown, and, mv);
     let bounds = Bounds::unity();
-    let node = node_pool::alloc(words, free, t.used, bounds, packed, sibling);
-    let rest = node.free;
+    let node = node_pool::alloc(words, head, t.used, bounds, packed, sibling);
+    let rest = node.head;
     let child = node.id;
     Opened {
-        free: rest,
+        head: rest,
         used: node.used,
         made: t.made + 1,
         last: child,
@@ -131,11 +131,11 @@ fn open_numbers(m: Made, t: Opened) -> Made
     requires { ⌜ m .made ≤ t .made ⌝ }
     ensures { λ r. ⌜ r ≡ counting t m ⌝ }
 {
-    let free = t.free;
+    let head = t.head;
     let last = t.last;
     let more = t.made - m.made;
     Made {
-        free,
+        head,
         used: t.used,
         made: t.made,
         last,
@@ -150,10 +150,10 @@ fn open_board(words: &mut [u32], taken: u16, b: usize, and: bool, start: Made) -
     requires { ⌜ OpenBoard (now words) taken b and start ⌝ }
     ensures { λ r. ⌜ ((g : OpenBoard (now (words .entry)) taken b and start) → Progress (g .leaf) (now (words .exit)) r (movesFrom (g .leaf .node .pos) (b * 9 + 9))) ⌝ }
 {
-    let free = start.free;
+    let head = start.head;
     let last = start.last;
     let mut t = Opened {
-        free,
+        head,
         used: start.used,
         made: start.made,
         last,
@@ -184,7 +184,7 @@ fn ending_board(
     let mut c = 0;
     while c < 9 && !m.ended {
         if !game::has(taken, c) {
-            let value = children::child_value(table, o, mine, taken, b, c, p.rule, p.root);
+            let value = children::child_value(table, o, mine, taken, b, c, p.rule, p.attacker);
             m = add_child(words, m, Move::from_coords(b, c), value, p.and);
         }
         c += 1;
@@ -252,7 +252,8 @@ fn make_children(
     let target = o.target as usize;
     match target {
         0..=8 => board_children(table, words, positions, o, p, target, start),
-        _ => free_children(table, words, positions, o, p, start),
+        15 => free_children(table, words, positions, o, p, start),
+        _ => start,
     }
 }
 
@@ -278,11 +279,11 @@ fn count(x: Prover, m: Made) -> Prover
     ensures { λ r. ⌜ r ≡ counted x m ⌝ }
 {
     let pool = x.pool;
-    let free = m.free;
+    let head = m.head;
     Prover {
         depth: x.depth,
         pool: Pool {
-            free,
+            head,
             used: m.used,
             allocated: pool.allocated + m.made as u64,
             freed: pool.freed,
@@ -300,26 +301,26 @@ pub fn expand(
     path: &[u32; PLIES],
     positions: &[u16; POSITIONS],
     x: Prover,
-    rule: u8,
-    root: usize,
+    rule: u64,
+    attacker: usize,
 ) -> Expanded
-    requires { ⌜ (now table ≡ lineTable) × Expandable (now words) (now path) (now positions) x rule root ⌝ }
-    ensures { λ r. ⌜ Expands (now (words .entry)) (now (path .entry)) (now (positions .entry)) x rule root (now (words .exit)) r ⌝ }
+    requires { ⌜ (now table ≡ lineTable) × Expandable (now words) (now path) (now positions) x rule attacker ⌝ }
+    ensures { λ r. ⌜ Expands (now (words .entry)) (now (path .entry)) (now (positions .entry)) x rule attacker (now (words .exit)) r ⌝ }
 {
     let depth = x.depth;
     let id = NodeID(path[depth]);
-    let base = depth * 24;
+    let base = positions::base(depth);
     let o = Outer::read(positions, base);
     let and = !node_pool::and_in(node_pool::packed(words, id));
     let pool = x.pool;
-    let free = pool.free;
+    let head = pool.head;
     let p = Parent {
         base,
-        rule: rule as u64,
-        root,
+        rule,
+        attacker,
         and,
     };
-    let start = Made::nothing(free, pool.used);
+    let start = Made::nothing(head, pool.used);
     let m = make_children(table, words, positions, o, p, start);
     let first = m.last;
     attach(words, id, first);

@@ -131,6 +131,14 @@ pub fn has(mask: u16, c: usize) -> bool
     (mask >> c) % 2 == 1
 }
 
+// The target: 0 to 8 a board, 15 free choice.
+pub fn target(words: &[u16], base: usize) -> u16
+    requires { ⌜ Held (now words) base ⌝ }
+    ensures { λ r. ⌜ r ≡ getD (now (words .entry)) (base + 21) 0 ⌝ }
+{
+    words[base + 21]
+}
+
 // The side to move, 0 X, 1 O.
 pub fn side_to_move(words: &[u16], base: usize) -> usize
     requires { ⌜ Held (now words) base ⌝ }
@@ -225,9 +233,14 @@ pub fn in_bounds(m: Move) -> bool
 
 // Whether the target lets its side play on board b.
 pub fn led_to(target: u16, b: usize) -> bool
+    requires { ⌜ b < 9 ⌝ }
     ensures { λ r. ⌜ r ≡ leads target b ⌝ }
 {
-    target == 15 || target as usize == b
+    match target {
+        0..=8 => target as usize == b,
+        15 => true,
+        _ => false,
+    }
 }
 
 // The errors that a cell of a game in play can have: WonBoard, WrongBoard, NotEmpty, in this order.
@@ -238,7 +251,7 @@ fn check_cell(words: &[u16], base: usize, b: usize, c: usize) -> MoveResult
     if !in_play(words, base, b) {
         return MoveResult::Err(MoveError::WonBoard);
     }
-    if !led_to(words[base + 21], b) {
+    if !led_to(target(words, base), b) {
         return MoveResult::Err(MoveError::WrongBoard);
     }
     let cell = at(words, base, b, c);

@@ -27,8 +27,16 @@ const FIRST: usize = 3;
 
 const SIBLING: usize = 4;
 
-// The packed word of a freed node: the flag free alone.
-const FREED: u32 = 134217728;
+// The places of the packed word's parts, most significant first: the value, the flags expanded, and, free, the move.
+const VALUE: u32 = 1073741824;
+
+const EXPANDED: u32 = 536870912;
+
+const AND: u32 = 268435456;
+
+const FREE: u32 = 134217728;
+
+const MOVE: u32 = 524288;
 
 // The number that is no node's.
 pub const NO_NODE: u32 = 4294967295;
@@ -119,7 +127,7 @@ pub fn pack(value: Evaluation, and: bool, mv: Move) -> u32
 {
     let v = value.number();
     let a = flag(and);
-    (v * 8 + a * 2) * 134217728 + mv.0 as u32 * 524288
+    v * VALUE + a * AND + mv.0 as u32 * MOVE
 }
 
 fn flag(b: bool) -> u32
@@ -131,19 +139,19 @@ fn flag(b: bool) -> u32
 pub fn expanded_in(packed: u32) -> bool
     ensures { λ r. ⌜ r ≡ eqb (expandedIn packed) 1 ⌝ }
 {
-    packed / 536870912 % 2 == 1
+    packed / EXPANDED % 2 == 1
 }
 
 pub fn and_in(packed: u32) -> bool
     ensures { λ r. ⌜ r ≡ eqb (andIn packed) 1 ⌝ }
 {
-    packed / 268435456 % 2 == 1
+    packed / AND % 2 == 1
 }
 
 pub fn move_in(packed: u32) -> Move
     ensures { λ r. ⌜ r .0 ≡ moveIn packed ⌝ }
 {
-    Move((packed / 524288 % 256) as u8)
+    Move((packed / MOVE % 256) as u8)
 }
 
 pub fn set_bounds(words: &mut [u32], id: NodeID, phi: u32, delta: u32)
@@ -167,12 +175,12 @@ pub fn set_expanded(words: &mut [u32], id: NodeID)
     ensures { λ _. ⌜ now (words .exit) ≡ setWord (now (words .entry)) (id .0) PACKED (word (now (words .entry)) (id .0) PACKED + 536870912) ⌝ }
 {
     let x = packed(words, id);
-    put(words, id, PACKED, x + 536870912);
+    put(words, id, PACKED, x + EXPANDED);
 }
 
 // The head of the freed nodes, how many numbers have been used, and the counts.
 pub struct Pool {
-    pub free: NodeID,
+    pub head: NodeID,
     pub used: u32,
     pub allocated: u64,
     pub freed: u64,
@@ -195,28 +203,29 @@ impl Pool {
     }
 }
 
+// A node that was taken, and what is left: the head of the freed nodes, and how many numbers have been used.
 pub struct AllocedNode {
     pub id: NodeID,
-    pub free: NodeID,
+    pub head: NodeID,
     pub used: u32,
 }
 
 // The node last freed, or else the next number never used.
-fn take(words: &[u32], free: NodeID, used: u32) -> AllocedNode
-    requires { ⌜ Spare (now words) (free .0) used ⌝ }
-    ensures { λ r. ⌜ ((g : Spare (now (words .entry)) (free .0) used) → Number (now (words .entry)) (free .0) used g (r .id .0) (r .free .0) (r .used)) ⌝ }
+fn take(words: &[u32], head: NodeID, used: u32) -> AllocedNode
+    requires { ⌜ Spare (now words) (head .0) used ⌝ }
+    ensures { λ r. ⌜ ((g : Spare (now (words .entry)) (head .0) used) → Number (now (words .entry)) (head .0) used g (r .id .0) (r .head .0) (r .used)) ⌝ }
 {
-    if free.exists() {
-        let next = first_child(words, free);
+    if head.exists() {
+        let next = first_child(words, head);
         AllocedNode {
-            id: free,
-            free: next,
+            id: head,
+            head: next,
             used,
         }
     } else {
         AllocedNode {
             id: NodeID(used),
-            free,
+            head,
             used: used + 1,
         }
     }
@@ -237,16 +246,16 @@ fn fill(words: &mut [u32], id: NodeID, bounds: Bounds, packed: u32, sibling: Nod
 // Takes a node and makes a leaf of it, before the sibling.
 pub fn alloc(
     words: &mut [u32],
-    free: NodeID,
+    head: NodeID,
     used: u32,
     bounds: Bounds,
     packed: u32,
     sibling: NodeID,
 ) -> AllocedNode
-    requires { ⌜ Spare (now words) (free .0) used ⌝ }
-    ensures { λ r. ⌜ Allocs (now (words .entry)) free used bounds packed sibling (now (words .exit)) r ⌝ }
+    requires { ⌜ Spare (now words) (head .0) used ⌝ }
+    ensures { λ r. ⌜ Allocs (now (words .entry)) head used bounds packed sibling (now (words .exit)) r ⌝ }
 {
-    let node = take(words, free, used);
+    let node = take(words, head, used);
     let id = node.id;
     fill(words, id, bounds, packed, sibling);
     node
@@ -257,11 +266,11 @@ pub fn free(words: &mut [u32], pool: Pool, id: NodeID) -> Pool
     requires { ⌜ Slot (now words) (id .0) × (pool .freed < pool .allocated) ⌝ }
     ensures { λ r. ⌜ Frees (now (words .entry)) pool id (now (words .exit)) r ⌝ }
 {
-    let head = pool.free;
-    put(words, id, PACKED, FREED);
+    let head = pool.head;
+    put(words, id, PACKED, FREE);
     put(words, id, FIRST, head.0);
     Pool {
-        free: id,
+        head: id,
         used: pool.used,
         allocated: pool.allocated,
         freed: pool.freed + 1,
@@ -285,7 +294,7 @@ fn wait(todo: &mut [u32; PLIES], top: usize, id: NodeID) -> usize
 // Frees the list of siblings from `first` on, and all below.
 pub fn free_siblings(words: &mut [u32], todo: &mut [u32; PLIES], first: NodeID, pool: Pool) -> Pool
     requires room { ⌜ length (now todo) ≡ plies ⌝ }
-    requires { ⌜ Freeable Position (now words) (first .0) (pool .free .0) (pool .freed) (pool .allocated) ⌝ }
+    requires { ⌜ Freeable Position (now words) (first .0) (pool .head .0) (pool .freed) (pool .allocated) ⌝ }
     ensures room { λ _. ⌜ length (now (todo .exit)) ≡ plies ⌝ }
     ensures { λ r. ⌜ FreesAll (now (words .entry)) first pool (now (words .exit)) r ⌝ }
 {

@@ -44,8 +44,8 @@ root-and rule p = ap not (sym (root-mine rule p))
 module _ (rule : ℕ) (p : Position) (w : List ℕ) (some : 0 < capacity w) (few : capacity w ≤ pool-max) where
   -- the state of a search that begins: the root alone is allocated
   abbrev first : NodeID → ℕ → Prover
-  first free used =
-      record { depth = 0; pool = record { free = free; used = used; allocated = 1; freed = 0 }; proved = 0; disproved = 0; expanded = 0 }
+  first head used =
+      record { depth = 0; pool = record { head = head; used = used; allocated = 1; freed = 0 }; proved = 0; disproved = 0; expanded = 0 }
 
   pub begun : (v path ps : List ℕ) (free : NodeID) (used phi delta word id : ℕ) (value : Verdict) → value ≡ view (gameOf rule p) .value p
       → Pair phi delta (leaf (gameOf rule p) p 255 .phi) (leaf (gameOf rule p) p 255 .delta) → word ≡ pack (verdictNumber value) 0 (bit false) 0 255

@@ -83,9 +83,9 @@ pub fn begin(
     let node = node_pool::alloc(words, NodeID(NO_NODE), 0, bounds, packed, NodeID(NO_NODE));
     let id = node.id;
     path[0] = id.0;
-    let free = node.free;
+    let head = node.head;
     let pool = Pool {
-        free,
+        head,
         used: node.used,
         allocated: 1,
         freed: 0,
@@ -184,13 +184,13 @@ fn is_short(words: &[u32], positions: &[u16; POSITIONS], x: Prover) -> bool
     ensures { λ r. ⌜ ((path : List ℕ) → Short (now (words .entry)) path (now (positions .entry)) x r) ⌝ }
 {
     let pool = x.pool;
-    let free = pool.free_nodes(node_pool::capacity(words) as u64);
-    if free >= MOST_MOVES {
+    let free_nodes = pool.free_nodes(node_pool::capacity(words) as u64);
+    if free_nodes >= MOST_MOVES {
         return false;
     }
     let depth = x.depth;
-    let moves = children::count_moves(positions, depth * 24);
-    free < moves as u64
+    let moves = children::count_moves(positions, positions::base(depth));
+    free_nodes < moves as u64
 }
 
 // Steps 2 to 6: down to a leaf; if it is short of nodes the search stops; expand, climb, count.
@@ -202,12 +202,12 @@ fn round(
     todo: &mut [u32; PLIES],
     x: Running,
     s: Settings,
-    root: usize,
+    attacker: usize,
 ) -> Running
     requires room { ⌜ length (now todo) ≡ plies ⌝ }
-    requires { ⌜ (now table ≡ lineTable) × Unsolved (now words) (now path) (now positions) x s root ⌝ }
+    requires { ⌜ (now table ≡ lineTable) × Unsolved (now words) (now path) (now positions) x s attacker ⌝ }
     ensures room { λ _. ⌜ length (now (todo .exit)) ≡ plies ⌝ }
-    ensures { λ r. ⌜ ((u : Unsolved (now (words .entry)) (now (path .entry)) (now (positions .entry)) x s root) → Stepped (u .from .start) s x (now (words .entry)) (now (words .exit)) (now (path .exit)) (now (positions .exit)) r) ⌝ }
+    ensures { λ r. ⌜ ((u : Unsolved (now (words .entry)) (now (path .entry)) (now (positions .entry)) x s attacker) → Stepped (u .from .start) s x (now (words .entry)) (now (words .exit)) (now (path .exit)) (now (positions .exit)) r) ⌝ }
 {
     let leaf = descend::descend(table, words, path, positions, x.prover);
     if is_short(words, positions, leaf) {
@@ -218,7 +218,7 @@ fn round(
             cause: 2,
         };
     }
-    let e = expand::expand(table, words, path, positions, leaf, s.rule as u8, root);
+    let e = expand::expand(table, words, path, positions, leaf, s.rule, attacker);
     let next = climb::climb(words, path, todo, e.prover, e.phi, e.delta);
     tick(next, x.tick, s)
 }
@@ -232,12 +232,12 @@ fn step(
     todo: &mut [u32; PLIES],
     x: Running,
     s: Settings,
-    root: usize,
+    attacker: usize,
 ) -> Running
     requires room { ⌜ length (now todo) ≡ plies ⌝ }
-    requires { ⌜ (now table ≡ lineTable) × Steppable (now words) (now path) (now positions) x s root ⌝ }
+    requires { ⌜ (now table ≡ lineTable) × Steppable (now words) (now path) (now positions) x s attacker ⌝ }
     ensures room { λ _. ⌜ length (now (todo .exit)) ≡ plies ⌝ }
-    ensures { λ r. ⌜ ((g : Steppable (now (words .entry)) (now (path .entry)) (now (positions .entry)) x s root) → Stepped (g .start) s x (now (words .entry)) (now (words .exit)) (now (path .exit)) (now (positions .exit)) r) ⌝ }
+    ensures { λ r. ⌜ ((g : Steppable (now (words .entry)) (now (path .entry)) (now (positions .entry)) x s attacker) → Stepped (g .start) s x (now (words .entry)) (now (words .exit)) (now (path .exit)) (now (positions .exit)) r) ⌝ }
 {
     let id = path[0];
     let phi = node_pool::phi(words, NodeID(id));
@@ -260,7 +260,7 @@ fn step(
             cause: 1,
         };
     }
-    round(table, words, path, positions, todo, x, s, root)
+    round(table, words, path, positions, todo, x, s, attacker)
 }
 
 // A search that goes on, until it stops. Path, positions and the places for nodes that wait are lent, so that it can be taken up again.
@@ -272,16 +272,16 @@ pub fn run(
     todo: &mut [u32; PLIES],
     x: Running,
     s: Settings,
-    root: usize,
+    attacker: usize,
 ) -> Running
     requires room { ⌜ length (now todo) ≡ plies ⌝ }
-    requires { ⌜ (now table ≡ lineTable) × Steppable (now words) (now path) (now positions) x s root ⌝ }
+    requires { ⌜ (now table ≡ lineTable) × Steppable (now words) (now path) (now positions) x s attacker ⌝ }
     ensures room { λ _. ⌜ length (now (todo .exit)) ≡ plies ⌝ }
-    ensures { λ r. ⌜ (r .stop ≡ true) × ((g : Steppable (now (words .entry)) (now (path .entry)) (now (positions .entry)) x s root) → Looping (g .start) s (now (words .entry)) (now (words .exit)) (now (path .exit)) (now (positions .exit)) r) ⌝ }
+    ensures { λ r. ⌜ (r .stop ≡ true) × ((g : Steppable (now (words .entry)) (now (path .entry)) (now (positions .entry)) x s attacker) → Looping (g .start) s (now (words .entry)) (now (words .exit)) (now (path .exit)) (now (positions .exit)) r) ⌝ }
 {
     let mut y = x;
     while !y.stop {
-        y = step(table, words, path, positions, todo, y, s, root);
+        y = step(table, words, path, positions, todo, y, s, attacker);
     }
     y
 }
@@ -296,7 +296,7 @@ pub fn search(words: &mut [u32], g: Game, s: Settings) -> SearchResult
     let mut positions: [u16; POSITIONS] = [0; POSITIONS];
     let mut todo: [u32; PLIES] = [0; PLIES];
     let root_words = g.words;
-    let root = game::side_to_move(&root_words, 0);
+    let attacker = game::side_to_move(&root_words, 0);
     let first = begin(&table, words, &mut path, &mut positions, g, s.rule);
     let x = Running {
         prover: first,
@@ -312,7 +312,7 @@ pub fn search(words: &mut [u32], g: Game, s: Settings) -> SearchResult
         &mut todo,
         x,
         s,
-        root,
+        attacker,
     );
     finish(words, &path, s, last)
 }

@@ -11,17 +11,28 @@ ghost use Rattle.positions.specs.Plies.{Copied, Pushed};
 use game::Game;
 use game::Move;
 
-// 82 positions, one a ply and the root, of 24 words each.
-pub const POSITIONS: usize = 1968;
+// The words of a ply: a position's, and one that holds nothing.
+const PLY: usize = 24;
+
+// 82 positions, one a ply and the root.
+pub const POSITIONS: usize = 82 * PLY;
+
+// Where the position of ply d stands.
+pub fn base(d: usize) -> usize
+    requires { ⌜ d < 82 ⌝ }
+    ensures { λ r. ⌜ r ≡ d * 24 ⌝ }
+{
+    d * PLY
+}
 
 // Copies the words of ply d to the next: all 24, the last of which holds nothing, since three moves of eight words are quicker.
 fn copy_ply(positions: &mut [u16; POSITIONS], d: usize)
     requires { ⌜ (length (now positions) ≡ 1968) × (d < 81) ⌝ }
     ensures { λ _. ⌜ Copied d (now (positions .entry)) (now (positions .exit)) ⌝ }
 {
-    let base = d * 24;
-    for i in 0..24 {
-        positions[base + 24 + i] = positions[base + i];
+    let from = base(d);
+    for i in 0..PLY {
+        positions[from + PLY + i] = positions[from + i];
     }
 }
 
@@ -31,7 +42,7 @@ pub fn push(table: &[u8; 512], positions: &mut [u16; POSITIONS], d: usize, m: Mo
     ensures { λ _. ⌜ Pushed d (m .0) (now (positions .entry)) (now (positions .exit)) ⌝ }
 {
     copy_ply(positions, d);
-    game::apply_move(table, positions, d * 24 + 24, m);
+    game::apply_move(table, positions, base(d) + PLY, m);
 }
 
 // The root's position at ply 0.

@@ -24,12 +24,12 @@ use game::cursor::Step;
 use prove::Evaluation;
 
 // What is known of a position at once.
-fn known(table: &[u8; 512], pos: Game, rule: u64, root: usize) -> Evaluation
+fn known(table: &[u8; 512], pos: Game, rule: u64, attacker: usize) -> Evaluation
     requires { ⌜ (now table ≡ lineTable) × Held (pos .words) 0 ⌝ }
-    ensures { λ r. ⌜ ((p : Position) → Holds p (pos .words) 0 → verdict r ≡ positionVerdict rule (playerOf root) p) ⌝ }
+    ensures { λ r. ⌜ ((p : Position) → Holds p (pos .words) 0 → verdict r ≡ positionVerdict rule (playerOf attacker) p) ⌝ }
 {
     let words = pos.words;
-    evaluate::evaluate_at(table, &words, 0, rule, root)
+    evaluate::evaluate_at(table, &words, 0, rule, attacker)
 }
 
 // A cursor over a position's legal moves.
@@ -73,11 +73,11 @@ fn next_reply(table: &[u8; 512], pos: Game, cursor: MoveIterator) -> Reply
 }
 
 // The attacker's turn: the root's side is to move.
-fn attack(table: &[u8; 512], pos: Game, rule: u64, root: usize) -> bool
-    requires { ⌜ (now table ≡ lineTable) × Turn (pos .words) root true ⌝ }
-    ensures { λ r. ⌜ ((t : Turn (pos .words) root true) → r ≡ value (game rule (playerOf root)) (t .position)) ⌝ }
+fn attack(table: &[u8; 512], pos: Game, rule: u64, attacker: usize) -> bool
+    requires { ⌜ (now table ≡ lineTable) × Turn (pos .words) attacker true ⌝ }
+    ensures { λ r. ⌜ ((t : Turn (pos .words) attacker true) → r ≡ value (game rule (playerOf attacker)) (t .position)) ⌝ }
 {
-    let known = known(table, pos, rule, root);
+    let known = known(table, pos, rule, attacker);
     match known {
         Evaluation::True => return true,
         Evaluation::False => return false,
@@ -90,7 +90,7 @@ fn attack(table: &[u8; 512], pos: Game, rule: u64, root: usize) -> bool
             return false;
         }
         let next = reply.pos;
-        if defend(table, next, rule, root) {
+        if defend(table, next, rule, attacker) {
             return true;
         }
         cursor = reply.rest;
@@ -98,11 +98,11 @@ fn attack(table: &[u8; 512], pos: Game, rule: u64, root: usize) -> bool
 }
 
 // The defender's turn: the other side is to move.
-fn defend(table: &[u8; 512], pos: Game, rule: u64, root: usize) -> bool
-    requires { ⌜ (now table ≡ lineTable) × Turn (pos .words) root false ⌝ }
-    ensures { λ r. ⌜ ((t : Turn (pos .words) root false) → r ≡ value (game rule (playerOf root)) (t .position)) ⌝ }
+fn defend(table: &[u8; 512], pos: Game, rule: u64, attacker: usize) -> bool
+    requires { ⌜ (now table ≡ lineTable) × Turn (pos .words) attacker false ⌝ }
+    ensures { λ r. ⌜ ((t : Turn (pos .words) attacker false) → r ≡ value (game rule (playerOf attacker)) (t .position)) ⌝ }
 {
-    let known = known(table, pos, rule, root);
+    let known = known(table, pos, rule, attacker);
     match known {
         Evaluation::True => return true,
         Evaluation::False => return false,
@@ -115,7 +115,7 @@ fn defend(table: &[u8; 512], pos: Game, rule: u64, root: usize) -> bool
             return true;
         }
         let next = reply.pos;
-        if !attack(table, next, rule, root) {
+        if !attack(table, next, rule, attacker) {
             return false;
         }
         cursor = reply.rest;

@@ -19,7 +19,7 @@ evaluate-requires c κs = search needs
 returns : tie.Need-returns
 returns c p k =
     let args = c .before .before .before .args in
-    c .evaluate .ensures ∙ child-evaluated (args .rule) (args .root) p _ _ _ (k .legal) (k .outer .side-is) (c .before .before .state-after .ensures p k)
+    c .evaluate .ensures ∙ child-evaluated (args .rule) (args .attacker) p _ _ _ (k .legal) (k .outer .side-is) (c .before .before .state-after .ensures p k)
 
 pub child-value-spec : {M : Type 1} → statement M
 child-value-spec = tie.close (tie.spec state-after-requires sub-evaluate evaluate-requires returns)

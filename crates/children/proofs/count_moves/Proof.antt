@@ -10,17 +10,11 @@ use Rattle.children.proofs.count_moves.Tie as tie
 done-bits-requires : tie.Need-done-bits-requires
 done-bits-requires c κs = search needs
 
-add-target : tie.Need-add-target
-add-target c = search needs
-
-mul-target : tie.Need-mul-target
-mul-target c = search needs
-
-shared-slice-read-target : tie.Need-shared-slice-read-target
-shared-slice-read-target c = search needs
+target-requires : tie.Need-target-requires
+target-requires c κs = search needs
 
 cast-target : tie.Need-cast-target
-cast-target c = omega (arith, c .shared-slice-known2 .given (c .before .before .before .args .base + 21))
+cast-target c = search needs
 
 free-moves-requires : tie.Need-free-moves-requires
 free-moves-requires c κs = search needs
@@ -29,24 +23,25 @@ board-moves-requires : tie.Need-board-moves-requires
 board-moves-requires c κs = search needs
 
 returns : tie.Need-returns
-returns c p h g = c .free-moves .ensures p h (c .before .before .before .done-bits .ensures p h) (sym (h .target) ∙ c .before .match .keys1) ∙ sym (free-length p g)
+returns c p h g = c .free-moves .ensures p h (c .before .before .before .done-bits .ensures p h) (sym (c .before .before .target .ensures ∙ h .target) ∙ c .before .match .keys1) ∙ sym (free-length p g)
 
 returns-2 : tie.Need-returns-2
 returns-2 c p h g =
+    let t = c .before .before .before .target .ensures ∙ h .target in
     c .board-moves .ensures .0 p h (c .before .before .before .before .done-bits .ensures p h)
-    ∙ ap (boardMoves p) (h .target) ∙ sym (target-length p g (h .whole) (rw (h .target) at (c .before .if1 .taken)))
+    ∙ ap (boardMoves p) t ∙ sym (target-length p g (h .whole) (rw t at (c .before .if1 .taken)))
 
 returns-3 : tie.Need-returns-3
-returns-3 c p h g = sym (no-length p g (rw (h .target) at (c .if1 .left)) (rw (h .target) at (c .before .match .rest .1)))
+returns-3 c p h g =
+    let t = c .before .before .target .ensures ∙ h .target in
+    sym (no-length p g (rw t at (c .if1 .left)) (rw t at (c .before .match .rest .1)))
 
 pub count-moves-spec : {M : Type 1} → statement M
 count-moves-spec =
     tie.close
     (tie.spec
     done-bits-requires
-    add-target
-    mul-target
-    shared-slice-read-target
+    target-requires
     cast-target
     free-moves-requires
     board-moves-requires

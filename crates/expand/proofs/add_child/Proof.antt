@@ -33,7 +33,7 @@ returns c g =
     let b = a .before .before .before in
     added _ _ _ _ _ g _ _ _ _ (b .leaf-bounds .ensures) (a .before .before .pack .ensures) (a .alloc .ensures (add-asks _ _ _ _ _ g)) _
     (record {
-      free-is = refl;
+      head-is = refl;
       used-is = refl;
       made-is = omega arith;
       last-is = refl;

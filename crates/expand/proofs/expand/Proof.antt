@@ -4,26 +4,27 @@ use mathlib.Core.List.{[]}
 use mathlib.Core.Bool.{not}
 use Rattle.expand.specs.Progress.{Progress, progress-few}
 use Rattle.expand.specs.Expandable.{Expandable}
-use Rattle.expand.specs.Expanding.{leafAt, leaf-stands, unmade, leaf-slot, leaf-shut, expansion}
+use Rattle.expand.specs.Expanding.{leafAt, leaf-at, unmade, leaf-slot, leaf-shut, expansion}
 use borrow.Author.Needs.{needs}
 use Rattle.expand.proofs.expand.Statement.{statement}
 use Rattle.expand.proofs.expand.Tie as tie
 
 -- From the place before the call of make_children back to that of expand
 abbrev call : tie.After-nothing → tie.Start
-call c = c .before .before .before .before .before .before .before .before .before .before
+call c = c .before .before .before .before .before .before .before .before .before .before .before
 
 -- After it all children are made
 all-made : (c : tie.After-make-children)
-    (g : let s = call (c .before .before) in Expandable (s .args .words .now) (s .args .path .now) (s .args .positions .now) (s .args .x) (s .args .rule) (s .args .root))
+    (g : let s = call (c .before .before) in Expandable (s .args .words .now) (s .args .path .now) (s .args .positions .now) (s .args .x) (s .args .rule) (s .args .attacker))
     → Progress (leafAt _ _ _ _ _ _ g) (c .make-children .last .1 .0) (c .make-children .result) []
 unfolding unmade
 all-made c g =
     let n = c .before .before in
     let a = n .before .before .before in
     let k = a .before in
+    let b = k .before .before .before .before in
     c .make-children .ensures
-    (unmade _ _ _ _ _ _ g _ (n .nothing .ensures) _ _ _ (k .before .before .read .ensures _ (leaf-stands _ _ _ _ _ _ g)) refl refl refl (ap not (a .and-in .ensures)) (k .packed .ensures))
+    (unmade _ _ _ _ _ _ g _ (n .nothing .ensures) _ _ _ (k .before .before .read .ensures _ (leaf-at _ _ _ _ _ _ g _ (b .base .ensures))) (b .base .ensures) refl refl (ap not (a .and-in .ensures)) (k .packed .ensures))
 
 mul-and-in : tie.Need-mul-and-in
 mul-and-in c = search needs
@@ -31,11 +32,11 @@ mul-and-in c = search needs
 element-copy-out-and-in : tie.Need-element-copy-out-and-in
 element-copy-out-and-in c = search needs
 
-mul-base : tie.Need-mul-base
-mul-base c = search needs
+base-requires : tie.Need-base-requires
+base-requires c κs = search needs
 
 read-requires : tie.Need-read-requires
-read-requires c κs = (_, leaf-stands _ _ _ _ _ _ (c .before .before .before .pre .1))
+read-requires c κs = (_, leaf-at _ _ _ _ _ _ (c .before .before .before .before .pre .1) _ (c .before .base .ensures))
 
 packed-requires : tie.Need-packed-requires
 packed-requires c κs = search needs
@@ -51,9 +52,10 @@ make-children-requires c κs =
     let n = c .before in
     let a = n .before .before .before in
     let k = a .before in
+    let b = k .before .before .before .before in
     let s = call n in
     let g = s .pre .1 in
-    (s .pre .0, unmade _ _ _ _ _ _ g _ (n .nothing .ensures) _ _ _ (k .before .before .read .ensures _ (leaf-stands _ _ _ _ _ _ g)) refl refl refl (ap not (a .and-in .ensures)) (k .packed .ensures))
+    (s .pre .0, unmade _ _ _ _ _ _ g _ (n .nothing .ensures) _ _ _ (k .before .before .read .ensures _ (leaf-at _ _ _ _ _ _ g _ (b .base .ensures))) (b .base .ensures) refl refl (ap not (a .and-in .ensures)) (k .packed .ensures))
 
 attach-requires : tie.Need-attach-requires
 attach-requires c κs =
@@ -79,7 +81,7 @@ expand-spec =
     (tie.spec
     mul-and-in
     element-copy-out-and-in
-    mul-base
+    base-requires
     read-requires
     packed-requires
     and-in-requires

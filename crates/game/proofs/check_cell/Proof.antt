@@ -19,20 +19,14 @@ in-play-requires c κs = search needs
 returns : tie.Need-returns
 returns c p h = sym (rw (sym (ap not (c .before .in-play .ensures p h)) ∙ c .if1 .taken))
 
-add-led-to : tie.Need-add-led-to
-add-led-to c = search needs
-
-mul-led-to : tie.Need-mul-led-to
-mul-led-to c = search needs
-
-shared-slice-read-led-to : tie.Need-shared-slice-read-led-to
-shared-slice-read-led-to c = search needs
+target-requires : tie.Need-target-requires
+target-requires c κs = search needs
 
 led-to-requires : tie.Need-led-to-requires
 led-to-requires c κs = search needs
 
 returns-2 : tie.Need-returns-2
-returns-2 c p h = sym (rw (sym (ap not (c .before .before .before .before .in-play .ensures p h)) ∙ c .before .before .before .if1 .left, sym (ap not (c .before .led-to .ensures ∙ ap (λ t. leads t (c .before .before .before .before .before .before .args .b)) (h .target))) ∙ c .if2 .taken))
+returns-2 c p h = sym (rw (sym (ap not (c .before .before .before .before .in-play .ensures p h)) ∙ c .before .before .before .if1 .left, sym (ap not (c .before .led-to .ensures ∙ ap (λ t. leads t (c .before .before .before .before .before .before .args .b)) (c .before .before .target .ensures ∙ h .target))) ∙ c .if2 .taken))
 
 at-requires : tie.Need-at-requires
 at-requires c κs = search needs
@@ -45,7 +39,7 @@ enum-told-2 c = search needs
 
 returns-3 : tie.Need-returns-3
 returns-3 c p h =
-    sym (rw (sym (ap not (c .before .before .before .before .before .before .before .in-play .ensures p h)) ∙ c .before .before .before .before .before .before .if1 .left, sym (ap not (c .before .before .before .before .led-to .ensures ∙ ap (λ t. leads t (c .before .before .before .before .before .before .before .before .before .args .b)) (h .target))) ∙ c .before .before .before .if2 .left, sym (c .before .before .at .ensures p h) ∙ ap cellNumber (c .enum-told .given .1)))
+    sym (rw (sym (ap not (c .before .before .before .before .before .before .before .in-play .ensures p h)) ∙ c .before .before .before .before .before .before .if1 .left, sym (ap not (c .before .before .before .before .led-to .ensures ∙ ap (λ t. leads t (c .before .before .before .before .before .before .before .before .before .args .b)) (c .before .before .before .before .before .target .ensures ∙ h .target))) ∙ c .before .before .before .if2 .left, sym (c .before .before .at .ensures p h) ∙ ap cellNumber (c .enum-told .given .1)))
 
 -- a played cell is not empty
 taken : (cell : CellState) (s : Player) → cell ≡ Played s → {n : ℕ} → cellNumber cell ≡ n → eqb n 0 ≡ false
@@ -54,7 +48,7 @@ taken cell O e q = rw (sym q, e)
 
 returns-4 : tie.Need-returns-4
 returns-4 c p h =
-    sym (rw (sym (ap not (c .before .before .before .before .before .before .before .in-play .ensures p h)) ∙ c .before .before .before .before .before .before .if1 .left, sym (ap not (c .before .before .before .before .led-to .ensures ∙ ap (λ t. leads t (c .before .before .before .before .before .before .before .before .before .args .b)) (h .target))) ∙ c .before .before .before .if2 .left, taken _ _ (c .enum-told2 .given .1) (c .before .before .at .ensures p h)))
+    sym (rw (sym (ap not (c .before .before .before .before .before .before .before .in-play .ensures p h)) ∙ c .before .before .before .before .before .before .if1 .left, sym (ap not (c .before .before .before .before .led-to .ensures ∙ ap (λ t. leads t (c .before .before .before .before .before .before .before .before .before .args .b)) (c .before .before .before .before .before .target .ensures ∙ h .target))) ∙ c .before .before .before .if2 .left, taken _ _ (c .enum-told2 .given .1) (c .before .before .at .ensures p h)))
 
 pub check-cell-spec : {M : Type 1} → statement M
 check-cell-spec =
@@ -62,9 +56,7 @@ check-cell-spec =
     (tie.spec
     in-play-requires
     returns
-    add-led-to
-    mul-led-to
-    shared-slice-read-led-to
+    target-requires
     led-to-requires
     returns-2
     at-requires

@@ -1,13 +1,17 @@
--- `game::led_to` meets its contract. Assumes nothing.
+-- `game::led_to` meets its contract: a board below 9 is none of the numbers between. Assumes nothing.
+use native.Mathlib.Omega.{arith}
 use borrow.Author.Tests.{eq-eqb, ne-eqb}
 use Rattle.game.proofs.led_to.Statement.{statement}
 use Rattle.game.proofs.led_to.Tie as tie
 
 returns : tie.Need-returns
-returns c = rw (eq-eqb _ _ (c .if1 .taken))
+returns c = rw (eq-eqb _ _ (c .match .keys1))
 
 returns-2 : tie.Need-returns-2
-returns-2 c = rw (ne-eqb _ _ (c .if1 .left))
+returns-2 c = rw (ne-eqb (c .before .before .args .target) 15 (λ e. omega (arith, e, c .if1 .taken)))
+
+returns-3 : tie.Need-returns-3
+returns-3 c = rw (ne-eqb (c .before .before .args .target) 15 (c .before .match .rest .1), ne-eqb (c .before .before .args .target) (c .before .before .args .b) (λ e. omega (arith, e, c .if1 .left, c .before .before .pre)))
 
 pub led-to-spec : {M : Type 1} → statement M
-led-to-spec = tie.close (tie.spec returns returns-2)
+led-to-spec = tie.close (tie.spec returns returns-2 returns-3)

@@ -28,7 +28,7 @@ returns c =
     let r = released (stored _ _ _ _ _ s₁ (omega arith) (p₁ .put .ensures)) (stored _ _ _ _ _ (slot-long (p₁ .put .kept .0) s₁) (omega arith) (p₂ .put2 .ensures)) in
     record {
       released = r;
-      free-is = refl;
+      head-is = refl;
       used-is = refl;
       allocated-is = refl;
       freed-is = refl;

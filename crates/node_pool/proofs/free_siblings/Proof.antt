@@ -13,7 +13,7 @@ use Rattle.node_pool.proofs.free_siblings.Tie as tie
 abbrev Inv-loop : tie.InvT-loop
 Inv-loop words₀ todo₀ start p₀ top₀ words todo p top =
     (length todo ≡ plies)
-    × ((g : Freeable Position words₀ start (p₀ .free .0) (p₀ .freed) (p₀ .allocated)) → Freeing Position words₀ start (p₀ .free .0) (p₀ .freed) (p₀ .allocated) g words todo (p .free .0) (p .freed) top)
+    × ((g : Freeable Position words₀ start (p₀ .head .0) (p₀ .freed) (p₀ .allocated)) → Freeing Position words₀ start (p₀ .head .0) (p₀ .freed) (p₀ .allocated) g words todo (p .head .0) (p .freed) top)
     × (p .used ≡ p₀ .used)
     × (p .allocated ≡ p₀ .allocated)
 
@@ -25,14 +25,14 @@ abbrev call : tie.In-loop Inv-loop μ-loop → tie.Start Inv-loop μ-loop
 call c = c .before .before .before .before .before
 
 abbrev Still : tie.In-loop Inv-loop μ-loop → Type 0
-Still c = Freeing Position (call c .args .words .now) (call c .args .first .0) (call c .args .pool .free .0) (call c .args .pool .freed) (call c .args .pool .allocated) (call c .pre .1)
-    (c .before .loop .words) (c .before .loop .todo) (c .before .loop .p .free .0) (c .before .loop .p .freed) (c .before .loop .top)
+Still c = Freeing Position (call c .args .words .now) (call c .args .first .0) (call c .args .pool .head .0) (call c .args .pool .freed) (call c .args .pool .allocated) (call c .pre .1)
+    (c .before .loop .words) (c .before .loop .todo) (c .before .loop .p .head .0) (c .before .loop .p .freed) (c .before .loop .top)
 
 still : (c : tie.In-loop Inv-loop μ-loop) → Still c
 still c = c .before .loop .inv .1 (call c .pre .1)
 
 abbrev Here : tie.In-loop Inv-loop μ-loop → Type 0
-Here c = Turn Position (call c .args .words .now) (call c .args .first .0) (call c .args .pool .free .0) (call c .args .pool .freed) (call c .args .pool .allocated) (call c .pre .1)
+Here c = Turn Position (call c .args .words .now) (call c .args .first .0) (call c .args .pool .head .0) (call c .args .pool .freed) (call c .args .pool .allocated) (call c .pre .1)
     (c .before .loop .words) (c .before .loop .todo) (c .before .loop .p .freed) (c .before .loop .top - 1)
 
 here : (c : tie.In-loop Inv-loop μ-loop) → Here c
@@ -89,7 +89,7 @@ loop-again c =
     let w₂ = c .before .before .before .before .wait3 .ensures in (
       w₂ .long ∙ w₁ .long ∙ t .before .loop .inv .0,
       (λ g. step Position _ _ _ _ _ g _ _ _ _ _ (omega arith) (t .before .loop .inv .1 g) _ _ (c .before .before .before .before .before .before .before .before .before .before .sibling .ensures)
-          (c .before .before .before .before .before .before .before .before .first-child .ensures) _ _ w₁ _ _ w₂ _ (r .released) _ _ (ap (λ (i : NodeID). i .0) (r .free-is)) (r .freed-is)),
+          (c .before .before .before .before .before .before .before .before .first-child .ensures) _ _ w₁ _ _ w₂ _ (r .released) _ _ (ap (λ (i : NodeID). i .0) (r .head-is)) (r .freed-is)),
       r .used-is ∙ t .before .loop .inv .2,
       r .allocated-is ∙ t .before .loop .inv .3,
     )
@@ -102,7 +102,7 @@ returns c =
     let l = c .before .loop in (
       l .inv .0,
       λ g.
-          let f = freeing-end Position _ _ _ _ _ g _ _ _ _ (subst (λ (t : ℕ). Freeing Position _ _ _ _ _ g (l .words) (l .todo) (l .p .free .0) (l .p .freed) t) (omega arith) (l .inv .1 g)) in
+          let f = freeing-end Position _ _ _ _ _ g _ _ _ _ (subst (λ (t : ℕ). Freeing Position _ _ _ _ _ g (l .words) (l .todo) (l .p .head .0) (l .p .freed) t) (omega arith) (l .inv .1 g)) in
           record { freed = f; used-is = l .inv .2; allocated-is = l .inv .3; trees = λ K ks i e z h. part-agree K _ _ (f .long) ks i e (λ x p. f .kept x (z x p)) h .0 },
     )
 

@@ -21,14 +21,11 @@ mul-result-2 c = omega (arith, bit-le (c .before .before .args .and))
 add-result : tie.Need-add-result
 add-result c = omega (arith, verdict-le (verdict (c .before .before .args .value)), bit-le (c .before .before .args .and))
 
-mul-result-3 : tie.Need-mul-result-3
-mul-result-3 c = omega (arith, verdict-le (verdict (c .before .before .args .value)), bit-le (c .before .before .args .and))
-
 cast-result : tie.Need-cast-result
 cast-result c = search needs
 
-mul-result-4 : tie.Need-mul-result-4
-mul-result-4 c = search needs
+mul-result-3 : tie.Need-mul-result-3
+mul-result-3 c = search needs
 
 add-result-2 : tie.Need-add-result-2
 add-result-2 c = omega (arith, verdict-le (verdict (c .before .before .before .args .value)), bit-le (c .before .before .before .args .and))
@@ -45,8 +42,7 @@ pack-spec =
     mul-result
     mul-result-2
     add-result
-    mul-result-3
     cast-result
-    mul-result-4
+    mul-result-3
     add-result-2
     returns)

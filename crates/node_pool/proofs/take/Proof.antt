@@ -18,7 +18,7 @@ add-t8 c = search needs
 
 returns : tie.Need-returns
 returns c = λ g.
-    subst (λ (h : ℕ). Number _ _ _ g (c .before .before .before .before .args .free .0) h (c .before .before .before .before .args .used)) (sym (c .first-child .ensures))
+    subst (λ (h : ℕ). Number _ _ _ g (c .before .before .before .before .args .head .0) h (c .before .before .before .before .args .used)) (sym (c .first-child .ensures))
     (take-freed _ _ _ g (exists-yes _ _ (c .before .before .exists .ensures) (c .before .if1 .taken)))
 
 returns-2 : tie.Need-returns-2

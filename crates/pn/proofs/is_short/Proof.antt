@@ -14,20 +14,21 @@ free-nodes-requires c κs = search needs
 returns : tie.Need-returns
 returns c path g = enough _ _ _ _ g _ _ (c .before .free-nodes .ensures) (c .before .before .capacity .ensures) (c .if1 .taken)
 
-mul-count-moves : tie.Need-mul-count-moves
-mul-count-moves c = search needs
+base-requires : tie.Need-base-requires
+base-requires c κs = search needs
 
 count-moves-requires : tie.Need-count-moves-requires
 count-moves-requires c κs =
-    let g = c .before .before .before .before .before .before .pre .1 in
-    (g .at .node .pos, here _ _ _ _ (g .stands .positions))
+    let g = c .before .before .before .before .before .before .before .pre .1 in
+    (g .at .node .pos, rw (c .base .ensures) (here _ _ _ _ (g .stands .positions)))
 
 cast-result : tie.Need-cast-result
 cast-result c = search needs
 
 returns-2 : tie.Need-returns-2
 returns-2 c path g =
-    shortness _ _ _ _ g _ _ _ (c .before .before .before .free-nodes .ensures) (c .before .before .before .before .capacity .ensures) (c .count-moves .ensures (g .at .node .pos) (here _ _ _ _ (g .stands .positions)) (g .playing))
+    shortness _ _ _ _ g _ _ _ (c .before .before .before .before .free-nodes .ensures) (c .before .before .before .before .before .capacity .ensures)
+    (c .count-moves .ensures (g .at .node .pos) (rw (c .before .base .ensures) (here _ _ _ _ (g .stands .positions))) (g .playing))
 
 pub is-short-spec : {M : Type 1} → statement M
-is-short-spec = tie.close (tie.spec capacity-requires free-nodes-requires returns mul-count-moves count-moves-requires cast-result returns-2)
+is-short-spec = tie.close (tie.spec capacity-requires free-nodes-requires returns base-requires count-moves-requires cast-result returns-2)

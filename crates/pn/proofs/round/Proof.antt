@@ -35,38 +35,35 @@ returns c = (
       stepped-short u _ _ _ st short refl refl,
 )
 
-cast-expand : tie.Need-cast-expand
-cast-expand c = search needs
-
 expand-requires : tie.Need-expand-requires
 unfolding to-search to-count
 expand-requires c κs =
-    let u = c .before .before .before .before .before .before .before .before .before .before .before .before .before .pre .1 .1 in
-    let st = c .before .before .before .before .before .before .before .before .descend .ensures (to-search _ _ _ _ _ _ (u .from .going) (u .from .ranges) (u .from .on)) (u .unsolved) in
+    let u = c .before .before .before .before .before .before .before .before .before .before .before .before .pre .1 .1 in
+    let st = c .before .before .before .before .before .before .before .descend .ensures (to-search _ _ _ _ _ _ (u .from .going) (u .from .ranges) (u .from .on)) (u .unsolved) in
     let leaf = to-count _ _ _ _ _ _ (u .from .going) (u .from .ranges) (u .from .on) (u .unsolved) (u .more) _ _ _ st in
-    let short = short-is _ _ _ _ _ _ (u .from .going) (u .from .ranges) (u .from .on) (u .unsolved) (u .more) _ _ _ st _ (c .before .before .before .before .before .is-short .ensures _ leaf) ∙ c .before .before .before .before .if1 .left in
+    let short = short-is _ _ _ _ _ _ (u .from .going) (u .from .ranges) (u .from .on) (u .unsolved) (u .more) _ _ _ st _ (c .before .before .before .before .is-short .ensures _ leaf) ∙ c .before .before .before .if1 .left in
     let ex = to-expand _ _ _ _ _ _ (u .from .going) (u .from .ranges) (u .from .on) (u .unsolved) (u .more) _ _ _ st short _ (u .from .root-is) in
-    (c .before .before .before .before .before .before .before .before .before .before .before .before .before .pre .1 .0, ex)
+    (c .before .before .before .before .before .before .before .before .before .before .before .before .pre .1 .0, ex)
 
 climb-requires : tie.Need-climb-requires
 unfolding to-search to-count to-expand
 climb-requires c κs =
-    let u = c .before .before .before .before .before .before .before .before .before .before .before .before .before .before .before .before .before .before .before .pre .1 .1 in
-    let st = c .before .before .before .before .before .before .before .before .before .before .before .before .before .before .descend .ensures (to-search _ _ _ _ _ _ (u .from .going) (u .from .ranges) (u .from .on)) (u .unsolved) in
+    let u = c .before .before .before .before .before .before .before .before .before .before .before .before .before .before .before .before .before .before .pre .1 .1 in
+    let st = c .before .before .before .before .before .before .before .before .before .before .before .before .before .descend .ensures (to-search _ _ _ _ _ _ (u .from .going) (u .from .ranges) (u .from .on)) (u .unsolved) in
     let leaf = to-count _ _ _ _ _ _ (u .from .going) (u .from .ranges) (u .from .on) (u .unsolved) (u .more) _ _ _ st in
-    let short = short-is _ _ _ _ _ _ (u .from .going) (u .from .ranges) (u .from .on) (u .unsolved) (u .more) _ _ _ st _ (c .before .before .before .before .before .before .before .before .before .before .before .is-short .ensures _ leaf) ∙ c .before .before .before .before .before .before .before .before .before .before .if1 .left in
+    let short = short-is _ _ _ _ _ _ (u .from .going) (u .from .ranges) (u .from .on) (u .unsolved) (u .more) _ _ _ st _ (c .before .before .before .before .before .before .before .before .before .before .is-short .ensures _ leaf) ∙ c .before .before .before .before .before .before .before .before .before .if1 .left in
     let ex = to-expand _ _ _ _ _ _ (u .from .going) (u .from .ranges) (u .from .on) (u .unsolved) (u .more) _ _ _ st short _ (u .from .root-is) in
     let grown = c .before .before .before .before .before .expand .ensures ex in
     let cl = to-climb _ _ _ _ _ _ (u .from .going) (u .from .ranges) (u .from .on) (u .unsolved) (u .more) _ _ _ st short _ _ grown in
-    (c .before .before .before .before .before .before .before .before .before .before .before .before .before .before .before .before .before .before .before .pre .0, cl)
+    (c .before .before .before .before .before .before .before .before .before .before .before .before .before .before .before .before .before .before .pre .0, cl)
 
 tick-requires : tie.Need-tick-requires
 unfolding to-search to-count to-expand to-climb machine.round
 tick-requires c κs =
-    let u = c .before .before .before .before .before .before .before .before .before .before .before .before .before .before .before .before .before .before .before .before .before .before .pre .1 .1 in
-    let st = c .before .before .before .before .before .before .before .before .before .before .before .before .before .before .before .before .before .descend .ensures (to-search _ _ _ _ _ _ (u .from .going) (u .from .ranges) (u .from .on)) (u .unsolved) in
+    let u = c .before .before .before .before .before .before .before .before .before .before .before .before .before .before .before .before .before .before .before .before .before .pre .1 .1 in
+    let st = c .before .before .before .before .before .before .before .before .before .before .before .before .before .before .before .before .descend .ensures (to-search _ _ _ _ _ _ (u .from .going) (u .from .ranges) (u .from .on)) (u .unsolved) in
     let leaf = to-count _ _ _ _ _ _ (u .from .going) (u .from .ranges) (u .from .on) (u .unsolved) (u .more) _ _ _ st in
-    let short = short-is _ _ _ _ _ _ (u .from .going) (u .from .ranges) (u .from .on) (u .unsolved) (u .more) _ _ _ st _ (c .before .before .before .before .before .before .before .before .before .before .before .before .before .before .is-short .ensures _ leaf) ∙ c .before .before .before .before .before .before .before .before .before .before .before .before .before .if1 .left in
+    let short = short-is _ _ _ _ _ _ (u .from .going) (u .from .ranges) (u .from .on) (u .unsolved) (u .more) _ _ _ st _ (c .before .before .before .before .before .before .before .before .before .before .before .before .before .is-short .ensures _ leaf) ∙ c .before .before .before .before .before .before .before .before .before .before .before .before .if1 .left in
     let ex = to-expand _ _ _ _ _ _ (u .from .going) (u .from .ranges) (u .from .on) (u .unsolved) (u .more) _ _ _ st short _ (u .from .root-is) in
     let grown = c .before .before .before .before .before .before .before .before .expand .ensures ex in
     let cl = to-climb _ _ _ _ _ _ (u .from .going) (u .from .ranges) (u .from .on) (u .unsolved) (u .more) _ _ _ st short _ _ grown in
@@ -81,14 +78,14 @@ unfolding to-search to-count to-expand to-climb machine.round
 returns-2 c = (
   c .before .before .before .climb .ensures .0,
   λ u.
-      let st = c .before .before .before .before .before .before .before .before .before .before .before .before .before .before .before .before .before .before .descend .ensures (to-search _ _ _ _ _ _ (u .from .going) (u .from .ranges) (u .from .on)) (u .unsolved) in
+      let st = c .before .before .before .before .before .before .before .before .before .before .before .before .before .before .before .before .before .descend .ensures (to-search _ _ _ _ _ _ (u .from .going) (u .from .ranges) (u .from .on)) (u .unsolved) in
       let leaf = to-count _ _ _ _ _ _ (u .from .going) (u .from .ranges) (u .from .on) (u .unsolved) (u .more) _ _ _ st in
-      let short = short-is _ _ _ _ _ _ (u .from .going) (u .from .ranges) (u .from .on) (u .unsolved) (u .more) _ _ _ st _ (c .before .before .before .before .before .before .before .before .before .before .before .before .before .before .before .is-short .ensures _ leaf) ∙ c .before .before .before .before .before .before .before .before .before .before .before .before .before .before .if1 .left in
+      let short = short-is _ _ _ _ _ _ (u .from .going) (u .from .ranges) (u .from .on) (u .unsolved) (u .more) _ _ _ st _ (c .before .before .before .before .before .before .before .before .before .before .before .before .before .before .is-short .ensures _ leaf) ∙ c .before .before .before .before .before .before .before .before .before .before .before .before .before .if1 .left in
       let ex = to-expand _ _ _ _ _ _ (u .from .going) (u .from .ranges) (u .from .on) (u .unsolved) (u .more) _ _ _ st short _ (u .from .root-is) in
       let grown = c .before .before .before .before .before .before .before .before .before .expand .ensures ex in
       let cl = to-climb _ _ _ _ _ _ (u .from .going) (u .from .ranges) (u .from .on) (u .unsolved) (u .more) _ _ _ st short _ _ grown in
       let up = c .before .before .before .climb .ensures .1 cl in
-      stepped-on u short _ _ _ _ _ (c .before .before .before .climb .kept .0 ∙ c .before .before .before .before .before .before .before .before .before .expand .kept .1 .0) (beyond-trans (c .before .before .before .before .before .before .before .before .before .before .before .before .before .before .before .before .before .before .before .before .before .before .before .args .words .now) (c .before .before .before .before .before .before .before .before .before .expand .last .1 .0) (c .before .before .before .climb .last .0) (c .before .before .before .before .before .before .before .before .before .expand .kept .1 .0) (grown .past) (up .past)) (up .stands) (c .tick .ensures),
+      stepped-on u short _ _ _ _ _ (c .before .before .before .climb .kept .0 ∙ c .before .before .before .before .before .before .before .before .before .expand .kept .1 .0) (beyond-trans (c .before .before .before .before .before .before .before .before .before .before .before .before .before .before .before .before .before .before .before .before .before .before .args .words .now) (c .before .before .before .before .before .before .before .before .before .expand .last .1 .0) (c .before .before .before .climb .last .0) (c .before .before .before .before .before .before .before .before .before .expand .kept .1 .0) (grown .past) (up .past)) (up .stands) (c .tick .ensures),
 )
 
 pub round-spec : {M : Type 1} → statement M
@@ -99,7 +96,6 @@ round-spec =
     is-short-requires
     same-length
     returns
-    cast-expand
     expand-requires
     climb-requires
     tick-requires

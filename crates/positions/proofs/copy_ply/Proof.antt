@@ -1,5 +1,5 @@
 -- `positions::copy_ply` meets its contract: so many words are copied; the measure is what is left of the 24. Assumes nothing.
-use mathlib.Core.Path.{_≡_, refl}
+use mathlib.Core.Path.{_≡_}
 use Prim.Native.Nat.{_+_, _-_, _*_, _<_, _≤_}
 use lib.ListN.{length}
 use native.Mathlib.Omega.{arith}
@@ -13,11 +13,11 @@ Inv-loop positions₀ d base i₀ positions i = (i ≤ 24) × (base ≡ d * 24) 
 abbrev μ-loop : tie.MeasureT-loop
 μ-loop positions₀ d base i₀ positions i = 24 - i
 
-mul-base : tie.Need-mul-base Inv-loop μ-loop
-mul-base c = omega arith
+base-requires : tie.Need-base-requires Inv-loop μ-loop
+base-requires c κs = omega (arith, c .pre .1)
 
 loop-holds : tie.Need-loop-holds Inv-loop μ-loop
-loop-holds c = (omega arith, refl, c .pre .1, c .pre .0, copying-start _ _ _ _)
+loop-holds c = (omega arith, c .base .ensures, c .before .pre .1, c .before .pre .0, copying-start _ _ _ _)
 
 add-positions : tie.Need-add-positions Inv-loop μ-loop
 add-positions c = omega arith
@@ -55,7 +55,7 @@ returns : tie.Need-returns Inv-loop μ-loop
 returns c =
     let v = c .before .loop .inv in
     let e : c .before .loop .i ≡ 24 = omega (arith, c .loop-test .left) in
-    copied-ply _ _ _ (rw e at (v .4))
+    copied-ply _ _ _ (rw (v .1, e) at (v .4))
 
 pub copy-ply-spec : {M : Type 1} → statement M
 copy-ply-spec =
@@ -63,7 +63,7 @@ copy-ply-spec =
     (tie.spec
     Inv-loop
     μ-loop
-    mul-base
+    base-requires
     loop-holds
     add-positions
     mul-positions

@@ -8,19 +8,22 @@ use Rattle.positions.proofs.push.Tie as tie
 copy-ply-requires : tie.Need-copy-ply-requires
 copy-ply-requires c κs = search needs
 
-mul-apply-move : tie.Need-mul-apply-move
-mul-apply-move c = search needs
+base-requires : tie.Need-base-requires
+base-requires c κs = omega (arith, c .before .before .before .pre .2)
 
 add-apply-move : tie.Need-add-apply-move
 add-apply-move c = search needs
 
 apply-move-requires : tie.Need-apply-move-requires
-apply-move-requires c κs = (c .before .before .before .pre .0, copied-movable _ _ _ _ (c .before .copy-ply .ensures) (omega arith) (c .before .before .before .pre .3))
+apply-move-requires c κs =
+    let s = c .before .before .before .before in
+    (s .pre .0, rw (c .base .ensures) (copied-movable _ _ _ _ (c .before .before .copy-ply .ensures) (omega arith) (s .pre .3)))
 
 returns : tie.Need-returns
-returns c = pushed _ _ _ _ (c .before .before .copy-ply .ensures) (omega arith) _ (c .before .before .before .before .pre .3) (c .apply-move .ensures)
+returns c =
+    pushed _ _ _ _ (c .before .before .before .copy-ply .ensures) (omega arith) _ (c .before .before .before .before .before .pre .3) (rw (c .before .base .ensures) at (c .apply-move .ensures))
 
 pub push-spec : {M : Type 1} → statement M
 push-spec =
     tie.close
-    (tie.spec copy-ply-requires mul-apply-move add-apply-move apply-move-requires returns)
+    (tie.spec copy-ply-requires base-requires add-apply-move apply-move-requires returns)
