@@ -8,14 +8,13 @@ use Rattle.rules.specs.Rules.{Position}
 use Rattle.rules.specs.Record.{Accepted}
 use Rattle.machine.specs.Game.{Game}
 use Rattle.machine.specs.Tree.{Node, Children, solved}
-use Rattle.machine.specs.Machine.{Settings, State, Policy, root, standard, toLeaf, short, expand}
+use Rattle.machine.specs.Machine.{Settings, State, Policy, root, toLeaf, short, expand}
 use Rattle.machine.specs.Value.{Lawful}
 use Rattle.machine.specs.Place.{Sane}
 use Rattle.machine.specs.Reached.{In, tree, Reached, PoolInRange}
-use Rattle.machine.specs.Standard.{standard-sane}
 use Rattle.machine.specs.Unheld.{Unheld, reached-unheld, reached-most, result-most}
-use Rattle.plain.specs.Plain.{gameOf, searchOf}
-use Rattle.plain.specs.Laws.{lawful, left-most}
+use Rattle.plain.specs.Plain.{gameOf, policyOf, searchOf}
+use Rattle.plain.specs.Laws.{lawful, policy-sane, left-most}
 
 abbrev pub number-max : ℕ
 number-max = 3506438144
@@ -25,13 +24,13 @@ module _ (rule : ℕ) (p : Position) (a : Accepted p) (S : Settings) (in-range :
   G = gameOf rule p
 
   abbrev P : Policy G
-  P = standard G
+  P = policyOf rule (p .side)
 
   L : Lawful G
   L = lawful rule (p .side)
 
   Q : Sane G P
-  Q = standard-sane G L
+  Q = policy-sane rule (p .side)
 
   -- Of each round that a search makes: t is the state that step 4 leaves to step 5.
   pub position-unheld : (s : State Position) → Reached G P S p s → solved (root s) ≡ false → short G P S (toLeaf G P s) ≡ false
