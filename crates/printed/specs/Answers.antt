@@ -6,10 +6,10 @@ use lib.ListN.{length, take, getD}
 use borrow.Author.Tests.{eq-eqb, ne-eqb}
 use Rattle.pn.specs.Going.{resultOf}
 use Rattle.pn.specs.declared.SearchResult.{SearchResult}
-use Rattle.ultimattt.specs.Searches.{Searched, searchCall}
-use Rattle.ultimattt.specs.SearchAnswers.{searched}
-use Rattle.ultimattt.specs.declared.searches.Outcome.{Outcome}
-use Rattle.ultimattt.specs.declared.searches.Outcome.the-variants.{Answered, Refused}
+use Rattle.searches.specs.Searches.{Searched, searchCall}
+use Rattle.searches.specs.SearchAnswers.{searched}
+use Rattle.searches.specs.declared.Outcome.{Outcome}
+use Rattle.searches.specs.declared.Outcome.the-variants.{Answered, Refused}
 use Rattle.printed.specs.Printed.{fieldsLine, refusedLine, answerLine, judgeWords, judgeLimits, judgeLine}
 
 pub answered : {o : Outcome} {r : SearchResult} {s : Searched} → searched o ≡ s → o ≡ Answered r → answerLine s ≡ fieldsLine (resultOf r)

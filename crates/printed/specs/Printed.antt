@@ -5,7 +5,7 @@ use Prim.Native.Nat.{ℕ, zero, suc, _+_, _*_, _/_, _%_}
 use lib.Dec.{eqb, ltb}
 use lib.ListN.{length, take, getD}
 use Rattle.machine.specs.Machine.{Result, Verdict, True, False, Unknown}
-use Rattle.ultimattt.specs.Searches.{Limits, limits, Searched, Answered, Refused, searchCall}
+use Rattle.searches.specs.Searches.{Limits, limits, Searched, Answered, Refused, searchCall}
 
 -- One byte.
 abbrev pub byte : ℕ → List ℕ

@@ -1,4 +1,5 @@
--- Document 01's printed line and others, computed from the definitions. Rests on Printed and Answers, on plain's cases for the records W and D, and on ultimattt's for D's results.
+-- Document 01's printed line and others, computed from the definitions. Rests on Printed and Answers, and on plain's cases
+-- for the records W and D and for D's results.
 use mathlib.Core.Path.{_≡_, refl, ap, _∙_}
 use mathlib.Core.List.{List, [], _∷_, _++_}
 use Prim.Native.Nat.{ℕ}
@@ -8,9 +9,9 @@ use lib.Seq.{take-at, getD-at}
 use Rattle.rules.specs.Rules.{hasLine, state, board, boardStates, gameState}
 use Rattle.rules.specs.Record.{bitAt, positionOf, positionRefusal, refusal}
 use Rattle.machine.specs.Machine.{True}
-use Rattle.plain.specs.Cases.{W, D, fields, computedSearch}
-use Rattle.ultimattt.specs.Searches.{Searched, Answered, Refused, rangeRefusal, searchRefusal, searchCall}
-use Rattle.ultimattt.specs.Cases.{cases}
+use Rattle.plain.specs.Cases.{W, D, fields, computedSearch, starred}
+use Rattle.searches.specs.Searches.{Searched, Answered, Refused, rangeRefusal, searchRefusal, searchCall}
+use Rattle.searches.specs.SearchAnswers.{answered-with}
 use Rattle.printed.specs.Printed.{byte, decimal, fieldsLine, refusedLine, answerLine, judgeWords, judgeLimits, judgeLine}
 use Rattle.printed.specs.Answers.{wrong-length, right-length}
 
@@ -30,6 +31,11 @@ W-rule : searchCall W judgeWords 3 judgeLimits ≡ Refused 10
 unfolding searchCall searchRefusal rangeRefusal refusal positionRefusal positionOf bitAt hasLine state board boardStates gameState
 W-rule = refl
 
+-- D passes search's checks under each rule
+D-accepted : (searchRefusal D judgeWords 0 judgeLimits ≡ 0) × (searchRefusal D judgeWords 1 judgeLimits ≡ 0) × (searchRefusal D judgeWords 2 judgeLimits ≡ 0)
+unfolding searchRefusal rangeRefusal refusal positionRefusal positionOf bitAt hasLine state board boardStates gameState
+D-accepted = (refl, refl, refl)
+
 pub record Lines : Type 0 where
   -- `True 0 2147483648 2 1 1 0 1 0`; a newline ends each
   pub W-0 : judgeLine (W ++ byte 0) ≡ 84 ∷ 114 ∷ 117 ∷ 101 ∷ 32 ∷ 48 ∷ 32 ∷ 50 ∷ 49 ∷ 52 ∷ 55 ∷ 52 ∷ 56 ∷ 51 ∷ 54 ∷ 52 ∷ 56 ∷ 32 ∷ 50 ∷ 32 ∷ 49 ∷ 32 ∷ 49 ∷ 32 ∷ 48 ∷ 32 ∷ 49 ∷ 32 ∷ 48 ∷ 10 ∷ []
@@ -45,9 +51,9 @@ pub lines : Lines
 unfolding answerLine fieldsLine refusedLine decimal
 lines = record {
   W-0 = line-of W 0 _ refl W-won;
-  D-0 = line-of D 0 _ refl (cases .D-0-False);
-  D-1 = line-of D 1 _ refl (cases .D-1-False);
-  D-2 = line-of D 2 _ refl (cases .D-2-True);
+  D-0 = line-of D 0 _ refl (answered-with D judgeWords 0 judgeLimits _ (D-accepted .0) (starred .D-rule0));
+  D-1 = line-of D 1 _ refl (answered-with D judgeWords 1 judgeLimits _ (D-accepted .1) (starred .D-rule1));
+  D-2 = line-of D 2 _ refl (answered-with D judgeWords 2 judgeLimits _ (D-accepted .2) (starred .D-rule2));
   W-3 = line-of W 3 _ refl W-rule;
   none = wrong-length [] (λ e. omega (arith, e));
 }

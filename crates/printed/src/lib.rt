@@ -1,17 +1,17 @@
-// The printed line: what the program judge writes, from what it reads. Rests on the search of ultimattt.
+// The printed line: what the program judge writes, from what it reads. Rests on the call search.
 
 ghost use mathlib.Core.Path.{_≡_};
 ghost use Prim.Native.Nat.{_+_, _-_, _*_, _≤_, _<_};
 ghost use lib.ListN.{length, take, drop, replicate};
 ghost use Rattle.prove.specs.Numbers.{verdict};
 ghost use Rattle.pn.specs.Going.{resultOf};
-ghost use Rattle.ultimattt.specs.Searches.{searchCall};
+ghost use Rattle.searches.specs.Searches.{searchCall};
 ghost use Rattle.printed.specs.Printed.{decimal, byte, field, fields, verdictWord, fieldsLine, refusedLine, answerLine, judgeWords, judgeLimits, judgeLine};
 ghost use Rattle.printed.specs.Puts.{Put};
 use pn::SearchResult;
 use prove::Evaluation;
-use ultimattt::searches::Outcome;
-use ultimattt::searches::SearchLimits;
+use searches::Outcome;
+use searches::SearchLimits;
 
 // What judge gives a search: the pool's words, five a node, and the limits.
 const WORDS: usize = 16380;
@@ -141,7 +141,7 @@ fn put_answer(out: &mut [u8], bytes: &[u8], rule: u8) -> usize
         budget: BUDGET,
         interval: INTERVAL,
     };
-    let outcome = ultimattt::searches::search(bytes, &mut pool, rule as u64, limits);
+    let outcome = searches::search(bytes, &mut pool, rule as u64, limits);
     match outcome {
         Outcome::Answered(r) => put_result(out, r),
         Outcome::Refused(n) => put_refusal(out, n),

@@ -12,8 +12,9 @@ use Rattle.plain.specs.Plain.{valueOf, plainSearch}
 use Rattle.plain.specs.Cases as plain-cases
 use Rattle.plain.specs.Cases.{record21, E, W, D, fields, starred}
 use Rattle.referee.specs.OpenCells.{openCells}
-use Rattle.ultimattt.specs.Calls.{replayOutcome, refereeOutcome, afterMoves, replayCall, movesCall, refereeCall}
-use Rattle.ultimattt.specs.Searches.{Limits, limits, settings, rangeRefusal, searchRefusal, Refused, Answered, searchCall, fullOf, Draw, Full, Turned, fullCall}
+use Rattle.calls.specs.Calls.{replayOutcome, refereeOutcome, afterMoves, replayCall, movesCall, refereeCall}
+use Rattle.searches.specs.SearchAnswers.{answered-with}
+use Rattle.searches.specs.Searches.{Limits, limits, settings, rangeRefusal, searchRefusal, Refused, Answered, searchCall, fullOf, Draw, Full, Turned, fullCall}
 
 -- An output of 21 bytes, and one of 81.
 abbrev pub out21 : List ℕ
@@ -33,13 +34,9 @@ judging budget = limits 18446744073709551615 budget 10000
 abbrev pub UnderEach : List ℕ → ℕ → Limits → Result → Type 0
 UnderEach bytes words L r = (searchCall bytes words 0 L ≡ Answered r) × (searchCall bytes words 1 L ≡ Answered r) × (searchCall bytes words 2 L ≡ Answered r)
 
-answered : (bytes : List ℕ) (words rule : ℕ) (L : Limits) (r : Result) → searchRefusal bytes words rule L ≡ 0 → plainSearch rule (settings words L) bytes ≡ r → searchCall bytes words rule L ≡ Answered r
-unfolding searchCall
-answered bytes words rule L r e q = rw (e, q)
-
 under-each : (bytes : List ℕ) (words : ℕ) (L : Limits) (r : Result) → searchRefusal bytes words 0 L ≡ 0 → searchRefusal bytes words 1 L ≡ 0 → searchRefusal bytes words 2 L ≡ 0
     → plain-cases.UnderEach (settings words L) bytes r → UnderEach bytes words L r
-under-each bytes words L r e0 e1 e2 h = (answered bytes words 0 L r e0 (h .0), answered bytes words 1 L r e1 (h .1), answered bytes words 2 L r e2 (h .2))
+under-each bytes words L r e0 e1 e2 h = (answered-with bytes words 0 L r e0 (h .0), answered-with bytes words 1 L r e1 (h .1), answered-with bytes words 2 L r e2 (h .2))
 
 full : (bytes : List ℕ) (words : ℕ) (L : Limits) (r s : Result) → searchRefusal bytes words 0 L ≡ 0 → plainSearch 1 (settings words L) bytes ≡ r → plainSearch 2 (settings words L) bytes ≡ s
     → fullCall bytes words L ≡ Full (fullOf (r .verdict) (s .verdict)) r s
@@ -109,9 +106,9 @@ cases = record {
   E-short = under-each E (pool 81) (judging 1) _ refl refl refl (starred .E-short);
   W-won = under-each W (pool 6) (judging 1) _ refl refl refl (starred .W-won);
   W-short = under-each W (pool 5) (judging 1) _ refl refl refl (starred .W-short);
-  D-0-False = answered D (pool 3276) 0 (judging 100000) _ refl (starred .D-rule0);
-  D-1-False = answered D (pool 3276) 1 (judging 100000) _ refl (starred .D-rule1);
-  D-2-True = answered D (pool 3276) 2 (judging 100000) _ refl (starred .D-rule2);
+  D-0-False = answered-with D (pool 3276) 0 (judging 100000) _ refl (starred .D-rule0);
+  D-1-False = answered-with D (pool 3276) 1 (judging 100000) _ refl (starred .D-rule1);
+  D-2-True = answered-with D (pool 3276) 2 (judging 100000) _ refl (starred .D-rule2);
   D-full = full D (pool 3276) (judging 100000) _ _ refl (starred .D-rule1) (starred .D-rule2);
   D-target-0 = refl;
   no-pool = refl;

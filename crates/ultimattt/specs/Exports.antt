@@ -2,8 +2,8 @@
 use Prim.Native.Nat.{ℕ}
 use Rattle.machine.specs.Machine.{Result}
 use Rattle.prove.specs.Numbers.{verdictNumber}
-use Rattle.ultimattt.specs.Searches as calls
-use Rattle.ultimattt.specs.Searches.{Searched, Answered, Refused, Judged, Full, Turned, FullVerdict}
+use Rattle.searches.specs.Searches as calls
+use Rattle.searches.specs.Searches.{Searched, Answered, Refused, Judged, Full, Turned, FullVerdict}
 use Rattle.ultimattt.specs.declared.exports.ResultFields.{ResultFields}
 use Rattle.ultimattt.specs.declared.exports.SearchAnswer.{SearchAnswer}
 use Rattle.ultimattt.specs.declared.exports.FullAnswer.{FullAnswer}

@@ -1,11 +1,2 @@
-pub mod Calls
-pub mod Answers
-pub mod Turned
-pub mod Playing
-pub mod Writing
 pub mod Cases
-pub mod Searches
-pub mod ThirdCondition
-pub mod TwoSearches
-pub mod SearchAnswers
 pub mod Exports

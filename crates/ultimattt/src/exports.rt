@@ -5,19 +5,19 @@ ghost use Prim.Native.Nat.{ℕ};
 ghost use lib.ListN.{length};
 ghost use Rattle.game.specs.Numbers.{errorNumber};
 ghost use Rattle.pn.specs.Going.{resultOf};
-ghost use Rattle.ultimattt.specs.Calls.{replayOutcome, movesOutcome, refereeOutcome, replayCall, movesCall, refereeCall};
-ghost use Rattle.ultimattt.specs.Searches.{limits, searchCall, PoolAfter, fullCall, PoolAfterFull};
-ghost use Rattle.ultimattt.specs.SearchAnswers.{fullVerdict};
+ghost use Rattle.calls.specs.Calls.{replayOutcome, movesOutcome, refereeOutcome, replayCall, movesCall, refereeCall};
+ghost use Rattle.searches.specs.Searches.{limits, searchCall, PoolAfter, fullCall, PoolAfterFull};
+ghost use Rattle.searches.specs.SearchAnswers.{fullVerdict};
 ghost use Rattle.ultimattt.specs.Exports.{fields, fieldsOf, noFields, searchNumbers, searchedNumbers, fullNumber, fullNumbers, judgedNumbers};
-use crate::Listed;
-use crate::Refereed;
-use crate::Replayed;
-use crate::searches::FullOutcome;
-use crate::searches::FullVerdict;
-use crate::searches::Outcome;
-use crate::searches::SearchLimits;
+use calls::Listed;
+use calls::Refereed;
+use calls::Replayed;
 use game::MoveError;
 use pn::SearchResult;
+use searches::FullOutcome;
+use searches::FullVerdict;
+use searches::Outcome;
+use searches::SearchLimits;
 
 // An error's number in the table of refusals.
 fn error_number(e: MoveError) -> u32
@@ -43,7 +43,7 @@ pub struct ReplayAnswer {
 pub extern "C" fn uttt_replay(bytes: &[u8], moves: &[u8], out: &mut [u8]) -> ReplayAnswer
     ensures { λ r. ⌜ replayOutcome (r .code) (r .index) (now (out .exit)) ≡ replayCall (now (bytes .entry)) (now (moves .entry)) (now (out .entry)) ⌝ }
 {
-    let answer = crate::replay(bytes, moves, out);
+    let answer = calls::replay(bytes, moves, out);
     match answer {
         Replayed::Done => ReplayAnswer { code: 0, index: 0 },
         Replayed::Refused(n) => ReplayAnswer {
@@ -69,7 +69,7 @@ pub struct MovesAnswer {
 pub extern "C" fn uttt_legal_moves(bytes: &[u8], out: &mut [u8]) -> MovesAnswer
     ensures { λ r. ⌜ movesOutcome (r .code) (r .index) (r .count) (now (out .exit)) ≡ movesCall (now (bytes .entry)) (now (out .entry)) ⌝ }
 {
-    let answer = crate::legal_moves(bytes, out);
+    let answer = calls::legal_moves(bytes, out);
     match answer {
         Listed::Count(n) => MovesAnswer {
             code: 0,
@@ -96,7 +96,7 @@ pub struct RefereeAnswer {
 pub extern "C" fn uttt_referee(bytes: &[u8], rule: u64) -> RefereeAnswer
     ensures { λ r. ⌜ refereeOutcome (r .code) (r .index) (r .value) ≡ refereeCall (now (bytes .entry)) rule ⌝ }
 {
-    let answer = crate::referee(bytes, rule);
+    let answer = calls::referee(bytes, rule);
     match answer {
         Refereed::Value(v) => RefereeAnswer {
             code: 0,
@@ -185,7 +185,7 @@ pub extern "C" fn uttt_search(
         budget,
         interval,
     };
-    let outcome = crate::searches::search(bytes, words, rule, l);
+    let outcome = searches::search(bytes, words, rule, l);
     match outcome {
         Outcome::Answered(r) => SearchAnswer {
             code: 0,
@@ -241,7 +241,7 @@ pub extern "C" fn uttt_full_verdict(
         budget,
         interval,
     };
-    let outcome = crate::searches::full_verdict(bytes, words, l);
+    let outcome = searches::full_verdict(bytes, words, l);
     match outcome {
         FullOutcome::Full(v, first, second) => FullAnswer {
             code: 0,

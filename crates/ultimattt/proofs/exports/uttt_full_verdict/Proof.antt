@@ -1,6 +1,6 @@
 -- `ultimattt::exports::uttt_full_verdict` meets its contract: the numbers are those of its answer. Assumes nothing.
 use mathlib.Core.Path.{subst}
-use Rattle.ultimattt.specs.Searches.{PoolAfterFull}
+use Rattle.searches.specs.Searches.{PoolAfterFull}
 use borrow.Author.Needs.{needs}
 use Rattle.ultimattt.proofs.exports.uttt_full_verdict.Statement.{statement}
 use Rattle.ultimattt.proofs.exports.uttt_full_verdict.Tie as tie

@@ -1,6 +1,6 @@
 -- `ultimattt::exports::uttt_legal_moves` meets its contract: the answer's numbers are those of its case. Assumes nothing.
 use mathlib.Core.Path.{sym, ap, _∙_}
-use Rattle.ultimattt.specs.Answers.{listing}
+use Rattle.calls.specs.Answers.{listing}
 use borrow.Author.Needs.{needs}
 use Rattle.ultimattt.proofs.exports.uttt_legal_moves.Statement.{statement}
 use Rattle.ultimattt.proofs.exports.uttt_legal_moves.Tie as tie

@@ -1,8 +1,8 @@
 -- `ultimattt::exports::uttt_referee` meets its contract: the answer's numbers are those of its case. Assumes nothing.
 use mathlib.Core.Path.{sym, ap, _∙_}
 use mathlib.Core.Bool.{cond}
-use Rattle.ultimattt.specs.Calls.{refereeOutcome}
-use Rattle.ultimattt.specs.Answers.{refereed}
+use Rattle.calls.specs.Calls.{refereeOutcome}
+use Rattle.calls.specs.Answers.{refereed}
 use borrow.Author.Needs.{needs}
 use Rattle.ultimattt.proofs.exports.uttt_referee.Statement.{statement}
 use Rattle.ultimattt.proofs.exports.uttt_referee.Tie as tie

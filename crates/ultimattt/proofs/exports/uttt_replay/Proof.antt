@@ -1,7 +1,7 @@
 -- `ultimattt::exports::uttt_replay` meets its contract: the answer's numbers are those of its case. Assumes nothing.
 use mathlib.Core.Path.{sym, ap, _∙_}
-use Rattle.ultimattt.specs.Answers.{replayed}
-use Rattle.ultimattt.specs.Calls.{replayOutcome}
+use Rattle.calls.specs.Answers.{replayed}
+use Rattle.calls.specs.Calls.{replayOutcome}
 use borrow.Author.Needs.{needs}
 use Rattle.ultimattt.proofs.exports.uttt_replay.Statement.{statement}
 use Rattle.ultimattt.proofs.exports.uttt_replay.Tie as tie

@@ -1,6 +1,6 @@
 -- `ultimattt::exports::uttt_search` meets its contract: the numbers are those of its answer. Assumes nothing.
 use mathlib.Core.Path.{subst}
-use Rattle.ultimattt.specs.Searches.{PoolAfter}
+use Rattle.searches.specs.Searches.{PoolAfter}
 use borrow.Author.Needs.{needs}
 use Rattle.ultimattt.proofs.exports.uttt_search.Statement.{statement}
 use Rattle.ultimattt.proofs.exports.uttt_search.Tie as tie

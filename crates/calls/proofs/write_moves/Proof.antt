@@ -1,0 +1,64 @@
+-- `calls::write_moves` meets its contract: the moves written and those left to the cursor are the legal moves; the measure is what the cursor has left of the 81 cells. Assumes nothing.
+use Prim.Native.Nat.{_-_}
+use native.Mathlib.Omega.{arith}
+use borrow.Author.Needs.{needs}
+use Rattle.calls.specs.Writing.{Writing, next-is, end-is, writing-start, writing-room, writing-step, writing-less, writing-done}
+use Rattle.calls.proofs.write_moves.Statement.{statement}
+use Rattle.calls.proofs.write_moves.Tie as tie
+
+abbrev Inv-loop : tie.InvT-loop
+Inv-loop table words out₀ cursor₀ n₀ out cursor n = Writing words out₀ out n (cursor .at)
+
+abbrev μ-loop : tie.MeasureT-loop
+μ-loop table words out₀ cursor₀ n₀ out cursor n = 81 - cursor .at
+
+from-game-requires : tie.Need-from-game-requires Inv-loop μ-loop
+from-game-requires c κs = search needs
+
+loop-holds : tie.Need-loop-holds Inv-loop μ-loop
+loop-holds c = writing-start _ _ _ (c .from-game .ensures)
+
+next-requires : tie.Need-next-requires Inv-loop μ-loop
+next-requires c κs = c .before .before .before .before .pre .1
+
+enum-known-step : tie.Need-enum-known-step Inv-loop μ-loop
+enum-known-step c = search needs
+
+slice-write-out : tie.Need-slice-write-out Inv-loop μ-loop
+slice-write-out c = writing-room _ _ _ _ _ (c .before .before .before .before .loop .inv) (c .before .before .before .before .before .before .before .before .pre .2) (c .before .before .before .before .before .before .before .before .pre .1) _ _ (next-is _ _ _ (c .before .before .before .next .ensures) _ _ (c .before .step .given .1))
+
+add-n : tie.Need-add-n Inv-loop μ-loop
+add-n c = omega (arith, writing-room _ _ _ _ _ (c .before .before .before .before .loop .inv) (c .before .before .before .before .before .before .before .before .pre .2) (c .before .before .before .before .before .before .before .before .pre .1) _ _ (next-is _ _ _ (c .before .before .before .next .ensures) _ _ (c .before .step .given .1)))
+
+loop-less : tie.Need-loop-less Inv-loop μ-loop
+loop-less c = writing-less _ _ _ _ _ (c .before .before .before .before .loop .inv) (c .before .before .before .before .before .before .before .before .pre .2) (c .before .before .before .before .before .before .before .before .pre .1) _ _ (next-is _ _ _ (c .before .before .before .next .ensures) _ _ (c .before .step .given .1))
+
+loop-again : tie.Need-loop-again Inv-loop μ-loop
+loop-again c = writing-step _ _ _ _ _ (c .before .before .before .before .loop .inv) (c .before .before .before .before .before .before .before .before .pre .2) (c .before .before .before .before .before .before .before .before .pre .1) _ _ (next-is _ _ _ (c .before .before .before .next .ensures) _ _ (c .before .step .given .1))
+
+enum-told : tie.Need-enum-told Inv-loop μ-loop
+enum-told c = search needs
+
+same-length : tie.Need-same-length Inv-loop μ-loop
+same-length c = c .before .before .before .loop .inv .same-length
+
+returns : tie.Need-returns Inv-loop μ-loop
+returns c p h = writing-done _ _ _ _ _ (c .before .before .before .loop .inv) (end-is _ _ _ (c .before .before .next .ensures) (c .enum-told .given .1)) p h
+
+pub write-moves-spec : {M : Type 1} → statement M
+write-moves-spec =
+    tie.close
+    (tie.spec
+    Inv-loop
+    μ-loop
+    from-game-requires
+    loop-holds
+    next-requires
+    enum-known-step
+    slice-write-out
+    add-n
+    loop-less
+    loop-again
+    enum-told
+    same-length
+    returns)

@@ -1,0 +1,5 @@
+pub mod Calls
+pub mod Answers
+pub mod Turned
+pub mod Playing
+pub mod Writing

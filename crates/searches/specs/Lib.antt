@@ -1,0 +1,4 @@
+pub mod Searches
+pub mod ThirdCondition
+pub mod TwoSearches
+pub mod SearchAnswers

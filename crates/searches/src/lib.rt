@@ -1,0 +1,166 @@
+// The calls search and full verdict, and two searches of one record.
+
+ghost use mathlib.Core.Path.{_≡_};
+ghost use Prim.Native.Nat.{ℕ};
+ghost use lib.ListN.{length};
+ghost use Rattle.machine.specs.Machine.{Result};
+ghost use Rattle.prove.specs.Numbers.{verdict};
+ghost use Rattle.searches.specs.Searches.{rangeRefusal, searchCall, PoolAfter, fullOf, fullCall, PoolAfterFull};
+ghost use Rattle.searches.specs.Searches.{Answered as answers};
+ghost use Rattle.searches.specs.SearchAnswers.{limitsOf, searched, fullVerdict, judged};
+ghost use Rattle.searches.specs.ThirdCondition.{ThirdCondition};
+use calls::LAST_RULE;
+use pn::SearchResult;
+use pn::Settings;
+use prove::Evaluation;
+
+// The ends of search's ranges: nodes of the pool, interval, budget.
+const LEAST_NODES: usize = 1;
+
+const MOST_NODES: usize = 16777216;
+
+const LEAST_INTERVAL: u64 = 1;
+
+const MOST_INTERVAL: u64 = 1000000;
+
+const MOST_BUDGET: u64 = 1000000000000;
+
+// What a search is given beside the record, the pool and the rule.
+pub struct SearchLimits {
+    pub limit: u64,
+    pub budget: u64,
+    pub interval: u64,
+}
+
+// The answer of search: the result, or the check that turned the call back.
+pub enum Outcome {
+    Answered(SearchResult),
+    Refused(u8),
+}
+
+// Checks 8, 9 and 10: their number, or 0.
+fn range_refusal(nodes: usize, rule: u64, l: SearchLimits) -> u8
+    ensures { λ r. ⌜ r ≡ rangeRefusal nodes rule (limitsOf l) ⌝ }
+{
+    if nodes < LEAST_NODES {
+        return 8;
+    }
+    if nodes > MOST_NODES {
+        return 9;
+    }
+    if rule > LAST_RULE {
+        return 10;
+    }
+    if l.interval < LEAST_INTERVAL {
+        return 10;
+    }
+    if l.interval > MOST_INTERVAL {
+        return 10;
+    }
+    if l.budget > MOST_BUDGET {
+        return 10;
+    }
+    0
+}
+
+// Searches a record's position in the lent pool.
+pub fn search(bytes: &[u8], words: &mut [u32], rule: u64, l: SearchLimits) -> Outcome
+    ensures { λ r. ⌜ (searched r ≡ searchCall (now (bytes .entry)) (length (now (words .entry))) rule (limitsOf l)) × PoolAfter (searched r) (now (words .entry)) (now (words .exit)) ⌝ }
+{
+    let loaded = record::load(bytes);
+    if loaded.code != 0 {
+        return Outcome::Refused(loaded.code);
+    }
+    let refused = range_refusal(node_pool::capacity(words), rule, l);
+    if refused != 0 {
+        return Outcome::Refused(refused);
+    }
+    let start = loaded.game;
+    let s = Settings {
+        rule,
+        limit: l.limit,
+        budget: l.budget,
+        interval: l.interval,
+    };
+    Outcome::Answered(pn::search(words, start, s))
+}
+
+// The answers of two searches.
+pub struct TwoOutcomes {
+    pub first: Outcome,
+    pub second: Outcome,
+}
+
+// Two searches of one record under one rule, each in its own pool: the third condition, of code.
+pub fn two_searches(
+    bytes: &[u8],
+    rule: u64,
+    words: &mut [u32],
+    l: SearchLimits,
+    words2: &mut [u32],
+    l2: SearchLimits,
+) -> TwoOutcomes
+    ensures { λ r. ⌜ ((x y : Result) → searched (r .first) ≡ answers x → searched (r .second) ≡ answers y → ThirdCondition (now (bytes .entry)) rule (limitsOf l) (limitsOf l2) (length (now (words .entry))) (length (now (words2 .entry))) x y) ⌝ }
+    ensures first { λ r. ⌜ (searched (r .first) ≡ searchCall (now (bytes .entry)) (length (now (words .entry))) rule (limitsOf l)) × PoolAfter (searched (r .first)) (now (words .entry)) (now (words .exit)) ⌝ }
+    ensures second { λ r. ⌜ (searched (r .second) ≡ searchCall (now (bytes .entry)) (length (now (words2 .entry))) rule (limitsOf l2)) × PoolAfter (searched (r .second)) (now (words2 .entry)) (now (words2 .exit)) ⌝ }
+{
+    let first = search(bytes, words, rule, l);
+    let second = search(bytes, words2, rule, l2);
+    TwoOutcomes { first, second }
+}
+
+// The six full verdicts.
+pub enum FullVerdict {
+    Win,
+    Loss,
+    Draw,
+    AtLeastDraw,
+    AtMostDraw,
+    Undecided,
+}
+
+// The answer of full verdict, with the results under rules 1 and 2, or the check that turned the call back.
+pub enum FullOutcome {
+    Full(FullVerdict, SearchResult, SearchResult),
+    TurnedBack(u8),
+}
+
+// The full verdict, from the verdicts under rules 1 and 2.
+fn full_of(first: Evaluation, second: Evaluation) -> FullVerdict
+    ensures { λ r. ⌜ fullVerdict r ≡ fullOf (verdict first) (verdict second) ⌝ }
+{
+    match first {
+        Evaluation::True => FullVerdict::Win,
+        Evaluation::False => match second {
+            Evaluation::True => FullVerdict::Draw,
+            Evaluation::False => FullVerdict::Loss,
+            Evaluation::Unknown => FullVerdict::AtMostDraw,
+        },
+        Evaluation::Unknown => match second {
+            Evaluation::True => FullVerdict::AtLeastDraw,
+            Evaluation::False => FullVerdict::Loss,
+            Evaluation::Unknown => FullVerdict::Undecided,
+        },
+    }
+}
+
+// Searches a record's position under rule 1, then under rule 2, each from a fresh pool: nothing that the first left in the words counts.
+pub fn full_verdict(bytes: &[u8], words: &mut [u32], l: SearchLimits) -> FullOutcome
+    ensures { λ r. ⌜ (judged r ≡ fullCall (now (bytes .entry)) (length (now (words .entry))) (limitsOf l)) × PoolAfterFull (judged r) (now (words .entry)) (now (words .exit)) ⌝ }
+{
+    let first = search(bytes, words, 1, l);
+    match first {
+        Outcome::Refused(n) => FullOutcome::TurnedBack(n),
+        Outcome::Answered(r) => {
+            let second = search(bytes, words, 2, l);
+            match second {
+                Outcome::Refused(n) => FullOutcome::TurnedBack(n),
+                Outcome::Answered(s) => {
+                    let with_rule_1 = r.verdict;
+                    let with_rule_2 = s.verdict;
+                    FullOutcome::Full(full_of(with_rule_1, with_rule_2), r, s)
+                }
+            }
+        }
+    }
+}
