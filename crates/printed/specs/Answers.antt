@@ -7,7 +7,7 @@ use borrow.Author.Tests.{eq-eqb, ne-eqb}
 use Rattle.pn.specs.Going.{resultOf}
 use Rattle.pn.specs.declared.SearchResult.{SearchResult}
 use Rattle.searches.specs.Searches.{Searched, searchCall}
-use Rattle.searches.specs.SearchAnswers.{searched}
+use Rattle.searches.specs.Answers.{searched}
 use Rattle.searches.specs.declared.Outcome.{Outcome}
 use Rattle.searches.specs.declared.Outcome.the-variants.{Answered, Refused}
 use Rattle.printed.specs.Printed.{fieldsLine, refusedLine, answerLine, judgeWords, judgeLimits, judgeLine}

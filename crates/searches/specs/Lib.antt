@@ -1,4 +1,5 @@
 pub mod Searches
+pub mod Answers
 pub mod ThirdCondition
 pub mod TwoSearches
 pub mod SearchAnswers

@@ -1,4 +1,4 @@
--- The cases of search's answer as the definitions have them, and its checks. Rests on Searches and on pn's results.
+-- The answers of search and full verdict, each from the check that decides, and the pool's words afterwards. Rests on Searches and on pn's contract of a search.
 use mathlib.Core.Path.{_≡_, refl, ap, sym, _∙_}
 use mathlib.Core.Bool.{Bool, true, false, cond, not, _&&_, true≢false}
 use mathlib.Core.List.{List, [], _∷_}
@@ -13,39 +13,12 @@ use Rattle.game.specs.Words as game-words
 use Rattle.machine.specs.Machine.{Result}
 use Rattle.plain.specs.Plain.{plainSearch}
 use Rattle.words.specs.Words.{capacity, Beyond}
-use Rattle.pn.specs.Going.{resultOf}
 use Rattle.pn.specs.Searches.{Searchable}
-use Rattle.searches.specs.Searches.{poolLeast, poolMost, intervalLeast, intervalMost, budgetMost, rules, Limits, inRange, settings, nodes, rangeRefusal, searchRefusal, Searched, answerTo, searchCall, Untouched}
+use Rattle.searches.specs.Searches.{poolLeast, poolMost, intervalLeast, intervalMost, budgetMost, rules, Limits, inRange, settings, nodes, rangeRefusal, searchRefusal, answerTo, searchCall, Untouched}
 use Rattle.searches.specs.Searches.{Answered as answers, Refused as refuses}
 use Rattle.searches.specs.Searches as calls
-use Rattle.searches.specs.Searches.{Judged, judgedAs, fullOf, fullCall}
-use Rattle.searches.specs.declared.FullVerdict as full
-use Rattle.searches.specs.declared.FullVerdict.the-variants as full-variants
-use Rattle.searches.specs.declared.FullOutcome.{FullOutcome}
-use Rattle.searches.specs.declared.FullOutcome.the-variants.{Full as FullIn, TurnedBack}
+use Rattle.searches.specs.Searches.{judgedAs, fullOf, fullCall}
 use Rattle.searches.specs.TwoSearches.{accepts, accepts-refusal, answered}
-use Rattle.searches.specs.declared.SearchLimits.{SearchLimits}
-use Rattle.searches.specs.declared.Outcome.{Outcome}
-use Rattle.searches.specs.declared.Outcome.the-variants.{Answered, Refused}
-
-abbrev pub limitsOf : SearchLimits → Limits
-limitsOf l = record { limit = l .limit; budget = l .budget; interval = l .interval }
-
-abbrev pub searched : Outcome → Searched
-searched (Answered r) = answers (resultOf r)
-searched (Refused n) = refuses n
-
-abbrev pub fullVerdict : full.FullVerdict → calls.FullVerdict
-fullVerdict full-variants.Win = calls.Win
-fullVerdict full-variants.Loss = calls.Loss
-fullVerdict full-variants.Draw = calls.Draw
-fullVerdict full-variants.AtLeastDraw = calls.AtLeastDraw
-fullVerdict full-variants.AtMostDraw = calls.AtMostDraw
-fullVerdict full-variants.Undecided = calls.Undecided
-
-abbrev pub judged : FullOutcome → Judged
-judged (FullIn v r s) = calls.Full (fullVerdict v) (resultOf r) (resultOf s)
-judged (TurnedBack n) = calls.Turned n
 
 -- Checks 8 to 10, each from the test that decides
 module _ (n rule : ℕ) (L : Limits) where

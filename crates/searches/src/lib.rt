@@ -7,7 +7,7 @@ ghost use Rattle.machine.specs.Machine.{Result};
 ghost use Rattle.prove.specs.Numbers.{verdict};
 ghost use Rattle.searches.specs.Searches.{rangeRefusal, searchCall, PoolAfter, fullOf, fullCall, PoolAfterFull};
 ghost use Rattle.searches.specs.Searches.{Answered as answers};
-ghost use Rattle.searches.specs.SearchAnswers.{limitsOf, searched, fullVerdict, judged};
+ghost use Rattle.searches.specs.Answers.{limitsOf, searched, fullVerdict, judged};
 ghost use Rattle.searches.specs.ThirdCondition.{ThirdCondition};
 use calls::LAST_RULE;
 use pn::SearchResult;

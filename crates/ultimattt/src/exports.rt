@@ -7,7 +7,7 @@ ghost use Rattle.game.specs.Numbers.{errorNumber};
 ghost use Rattle.pn.specs.Going.{resultOf};
 ghost use Rattle.calls.specs.Calls.{replayOutcome, movesOutcome, refereeOutcome, replayCall, movesCall, refereeCall};
 ghost use Rattle.searches.specs.Searches.{limits, searchCall, PoolAfter, fullCall, PoolAfterFull};
-ghost use Rattle.searches.specs.SearchAnswers.{fullVerdict};
+ghost use Rattle.searches.specs.Answers.{fullVerdict};
 ghost use Rattle.ultimattt.specs.Exports.{fields, fieldsOf, noFields, searchNumbers, searchedNumbers, fullNumber, fullNumbers, judgedNumbers};
 use calls::Listed;
 use calls::Refereed;

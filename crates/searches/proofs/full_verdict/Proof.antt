@@ -1,7 +1,8 @@
 -- `searches::full_verdict` meets its contract, from the two searches' answers. Assumes nothing.
 use mathlib.Core.Path.{sym, ap, _∙_}
 use Rattle.searches.specs.Searches.{searchCall}
-use Rattle.searches.specs.SearchAnswers.{limitsOf, searched, full-refused, full-not-refused, full-answered, untouched-twice}
+use Rattle.searches.specs.Answers.{limitsOf, searched}
+use Rattle.searches.specs.SearchAnswers.{full-refused, full-not-refused, full-answered, untouched-twice}
 use borrow.Author.Needs.{needs}
 use Rattle.searches.proofs.full_verdict.Statement.{statement}
 use Rattle.searches.proofs.full_verdict.Tie as tie

@@ -2,7 +2,8 @@
 use mathlib.Core.Path.{refl, sym, ap, _∙_}
 use Rattle.rules.specs.Checks.{loads, loads-accepted}
 use Rattle.searches.specs.Searches.{rangeRefusal}
-use Rattle.searches.specs.SearchAnswers.{limitsOf, search-refused, search-out-of-range, search-answered, to-search, untouched}
+use Rattle.searches.specs.Answers.{limitsOf}
+use Rattle.searches.specs.SearchAnswers.{search-refused, search-out-of-range, search-answered, to-search, untouched}
 use borrow.Author.Needs.{needs}
 use Rattle.searches.proofs.search.Statement.{statement}
 use Rattle.searches.proofs.search.Tie as tie
