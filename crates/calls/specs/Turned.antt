@@ -1,62 +1,61 @@
--- The calls by the check that decides: refused by the record, by a short output, a rule or a large ending, or answered. Rests on Calls.
-use mathlib.Core.Path.{_≡_}
+-- The calls by the check that decides: refused by a check, or answered. Rests on Calls and Refusing.
+use mathlib.Core.Path.{_≡_, sym, _∙_}
 use mathlib.Core.Bool.{Bool, cond}
-use mathlib.Core.List.{List, _++_}
-use Prim.Native.Nat.{ℕ, _<_, _≤_}
-use borrow.Author.Tests.{ne-eqb, lt-ltb, le-ltb}
+use mathlib.Core.List.{List, [], _∷_, _++_}
+use Prim.Native.Nat.{ℕ, _≤_}
+use lib.Dec.{ltb}
 use lib.ListN.{length, drop}
 use Rattle.rules.specs.Rules.{Position, Replayed, replay, legalMoves}
 use Rattle.rules.specs.Rules.Replayed.{Reached, BadMove}
 use Rattle.rules.specs.Record.{positionOf, recordOf, refusal}
+use Rattle.rules.specs.Refusals.{refuses, firstRefusal}
+use Rattle.rules.specs.RefusalLaws.{none-refuses, first-refuses, rest-refuses}
 use Rattle.plain.specs.Plain.{recordValue}
 use Rattle.referee.specs.OpenCells.{openCells}
-use Rattle.calls.specs.Calls.{replayOutcome, movesOutcome, refereeOutcome, afterMoves, listed, replayCall, movesCall, refereeCall}
+use Rattle.calls.specs.Calls.{lastRule, replayOutcome, movesOutcome, refereeOutcome, afterMoves, listed, outputRefusal, refereeRefusal, replayCall, movesCall, refereeCall}
+use Rattle.calls.specs.Refusing.{passes-test, refused-by, passed-all}
+
+-- what passing checks 1 to 7 tells
+pub output-passes : (bytes : List ℕ) (room needed : ℕ) → outputRefusal bytes room needed ≡ 0 → (refusal bytes ≡ 0) × (needed ≤ room)
+unfolding outputRefusal
+output-passes bytes room needed e = let a = none-refuses _ _ e in (a .0, passes-test 6 room needed _ (a .1) .0)
 
 module _ (bytes moves out : List ℕ) where
-  pub replay-refused : (n : ℕ) → n ≡ refusal bytes → (n ≡ 0 → ⊥) → replayOutcome n 0 out ≡ replayCall bytes moves out
+  pub replay-refused : (n : ℕ) → n ≡ outputRefusal bytes (length out) 21 → (n ≡ 0 → ⊥) → replayOutcome n 0 out ≡ replayCall bytes moves out
   unfolding replayCall
-  replay-refused n e z = rw (e, ne-eqb (refusal bytes) 0 (λ q. z (rw e q)))
+  replay-refused n e z = refused-by (λ k. replayOutcome k 0 out) _ n _ e z
 
-  pub replay-short : refusal bytes ≡ 0 → length out < 21 → replayOutcome 7 0 out ≡ replayCall bytes moves out
+  pub replay-answered : outputRefusal bytes (length out) 21 ≡ 0 → afterMoves (replay (positionOf bytes) moves 0) out ≡ replayCall bytes moves out
   unfolding replayCall
-  replay-short e h = rw (e, lt-ltb (length out) 21 h)
-
-  pub replay-answered : refusal bytes ≡ 0 → 21 ≤ length out → afterMoves (replay (positionOf bytes) moves 0) out ≡ replayCall bytes moves out
-  unfolding replayCall
-  replay-answered e h = rw (e, le-ltb (length out) 21 h)
+  replay-answered e = passed-all (λ k. replayOutcome k 0 out) _ _ e
 
 module _ (bytes out : List ℕ) where
-  pub moves-refused : (n : ℕ) → n ≡ refusal bytes → (n ≡ 0 → ⊥) → movesOutcome n 0 0 out ≡ movesCall bytes out
+  pub moves-refused : (n : ℕ) → n ≡ outputRefusal bytes (length out) 81 → (n ≡ 0 → ⊥) → movesOutcome n 0 0 out ≡ movesCall bytes out
   unfolding movesCall
-  moves-refused n e z = rw (e, ne-eqb (refusal bytes) 0 (λ q. z (rw e q)))
+  moves-refused n e z = refused-by (λ k. movesOutcome k 0 0 out) _ n _ e z
 
-  pub moves-short : refusal bytes ≡ 0 → length out < 81 → movesOutcome 7 0 0 out ≡ movesCall bytes out
+  pub moves-answered : outputRefusal bytes (length out) 81 ≡ 0 → listed (legalMoves (positionOf bytes)) out ≡ movesCall bytes out
   unfolding movesCall
-  moves-short e h = rw (e, lt-ltb (length out) 81 h)
-
-  pub moves-answered : refusal bytes ≡ 0 → 81 ≤ length out → listed (legalMoves (positionOf bytes)) out ≡ movesCall bytes out
-  unfolding movesCall
-  moves-answered e h = rw (e, le-ltb (length out) 81 h)
+  moves-answered e = passed-all (λ k. movesOutcome k 0 0 out) _ _ e
 
 module _ (bytes : List ℕ) (rule : ℕ) where
-  pub referee-refused : (n : ℕ) → n ≡ refusal bytes → (n ≡ 0 → ⊥) → refereeOutcome n 0 0 ≡ refereeCall bytes rule
+  -- the record's checks, and the two that come after them
+  pub referee-record : (n : ℕ) → n ≡ refusal bytes → (n ≡ 0 → ⊥) → n ≡ refereeRefusal bytes rule
+  unfolding refereeRefusal
+  referee-record n e z = rw (← e) (sym (first-refuses n _ z))
+
+  pub referee-late : refusal bytes ≡ 0 → (a b n r : ℕ) → a ≡ refuses 10 (ltb lastRule rule) → n ≡ openCells (positionOf bytes) → b ≡ refuses 16 (ltb 9 n)
+      → r ≡ firstRefusal (a ∷ b ∷ []) → r ≡ refereeRefusal bytes rule
+  unfolding refereeRefusal
+  referee-late loaded a b n r ea eo eb er = rw (er, ea, eb, eo) (sym (rest-refuses (refusal bytes) _ loaded))
+
+  pub referee-refused : (n : ℕ) → n ≡ refereeRefusal bytes rule → (n ≡ 0 → ⊥) → refereeOutcome n 0 0 ≡ refereeCall bytes rule
   unfolding refereeCall
-  referee-refused n e z = rw (← e, ne-eqb n 0 z)
+  referee-refused n e z = refused-by (λ k. refereeOutcome k 0 0) _ n _ e z
 
-  module _ (accepted : refusal bytes ≡ 0) where
-    pub referee-rule : 2 < rule → refereeOutcome 10 0 0 ≡ refereeCall bytes rule
-    unfolding refereeCall
-    referee-rule h = rw (accepted, lt-ltb 2 rule h)
-
-    module _ (in-range : rule ≤ 2) where
-      pub referee-large : (n : ℕ) → n ≡ openCells (positionOf bytes) → 9 < n → refereeOutcome 16 0 0 ≡ refereeCall bytes rule
-      unfolding refereeCall
-      referee-large n e h = rw (accepted, le-ltb 2 rule in-range, ← e, lt-ltb 9 n h)
-
-      pub referee-answered : (n : ℕ) → n ≡ openCells (positionOf bytes) → n ≤ 9 → (v : Bool) → v ≡ recordValue rule bytes
-          → refereeOutcome 0 0 (cond v 1 2) ≡ refereeCall bytes rule
-      unfolding refereeCall
-      referee-answered n e h v q = rw (accepted, le-ltb 2 rule in-range, ← e, le-ltb 9 n h, ← q)
+  pub referee-answered : refereeRefusal bytes rule ≡ 0 → (v : Bool) → v ≡ recordValue rule bytes → refereeOutcome 0 0 (cond v 1 2) ≡ refereeCall bytes rule
+  unfolding refereeCall
+  referee-answered e v q = rw (e, q)
 
 -- what the moves come to
 pub after-reached : (x : Replayed) (p : Position) (out out′ : List ℕ) → x ≡ Reached p → out′ ≡ recordOf p ++ drop 21 out → replayOutcome 0 0 out′ ≡ afterMoves x out

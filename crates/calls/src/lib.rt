@@ -4,9 +4,10 @@ ghost use mathlib.Core.Path.{_≡_};
 ghost use Prim.Native.Nat.{ℕ, _≤_};
 ghost use lib.ListN.{length};
 ghost use Rattle.rules.specs.Rules.{Position, legalMoves, replay};
+ghost use Rattle.rules.specs.Record.{positionOf};
 ghost use Rattle.game.specs.Lines.{lineTable};
 ghost use Rattle.game.specs.Words.{Holds, Held};
-ghost use Rattle.calls.specs.Calls.{afterMoves, replayCall, movesCall, refereeCall};
+ghost use Rattle.calls.specs.Calls.{afterMoves, outputRefusal, replayCall, movesCall, refereeCall};
 ghost use Rattle.calls.specs.Answers.{replayed, listing, refereed};
 ghost use Rattle.calls.specs.Playing.{Played};
 ghost use Rattle.calls.specs.Writing.{Written};
@@ -16,6 +17,9 @@ use game::MoveError;
 use game::MoveResult;
 use game::cursor::MoveIterator;
 use game::cursor::Step;
+use record::Loaded;
+
+pub mod refusals;
 
 // The shortest output that takes a record, and the shortest that takes every legal move.
 const RECORD_LENGTH: usize = 21;
@@ -118,16 +122,26 @@ fn replay_from(start: Game, moves: &[u8], out: &mut [u8]) -> Replayed
     }
 }
 
+// Checks 1 to 7 of a call whose output has so much room: 0 and the position, or the number of the first that refuses.
+fn load_for(bytes: &[u8], room: usize, needed: usize) -> Loaded
+    ensures { λ r. ⌜ (r .code ≡ outputRefusal (now (bytes .entry)) room needed) × (r .code ≡ 0 → Holds (positionOf (now (bytes .entry))) (r .game .words) 0) ⌝ }
+{
+    let loaded = record::load(bytes);
+    let game = loaded.game;
+    let checks = [loaded.code, refusals::refuses(7, room < needed)];
+    Loaded {
+        code: refusals::first(&checks),
+        game,
+    }
+}
+
 // Replays moves from a record and writes the record afterwards.
 pub fn replay(bytes: &[u8], moves: &[u8], out: &mut [u8]) -> Replayed
     ensures { λ r. ⌜ replayed r (now (out .exit)) ≡ replayCall (now (bytes .entry)) (now (moves .entry)) (now (out .entry)) ⌝ }
 {
-    let loaded = record::load(bytes);
+    let loaded = load_for(bytes, out.len(), RECORD_LENGTH);
     if loaded.code != 0 {
         return Replayed::Refused(loaded.code);
-    }
-    if out.len() < RECORD_LENGTH {
-        return Replayed::Refused(7);
     }
     let start = loaded.game;
     replay_from(start, moves, out)
@@ -137,12 +151,9 @@ pub fn replay(bytes: &[u8], moves: &[u8], out: &mut [u8]) -> Replayed
 pub fn legal_moves(bytes: &[u8], out: &mut [u8]) -> Listed
     ensures { λ r. ⌜ listing r (now (out .exit)) ≡ movesCall (now (bytes .entry)) (now (out .entry)) ⌝ }
 {
-    let loaded = record::load(bytes);
+    let loaded = load_for(bytes, out.len(), MOVES_LENGTH);
     if loaded.code != 0 {
         return Listed::Turned(loaded.code);
-    }
-    if out.len() < MOVES_LENGTH {
-        return Listed::Turned(7);
     }
     let game = loaded.game;
     let words = game.words;
@@ -158,13 +169,15 @@ pub fn referee(bytes: &[u8], rule: u64) -> Refereed
     if loaded.code != 0 {
         return Refereed::Declined(loaded.code);
     }
-    if rule > LAST_RULE {
-        return Refereed::Declined(10);
-    }
     let pos = loaded.game;
     let words = pos.words;
-    if referee::open_cells(&words, 0) > MOST_OPEN {
-        return Refereed::Declined(16);
+    let checks = [
+        refusals::refuses(10, rule > LAST_RULE),
+        refusals::refuses(16, referee::open_cells(&words, 0) > MOST_OPEN),
+    ];
+    let code = refusals::first(&checks);
+    if code != 0 {
+        return Refereed::Declined(code);
     }
     let table = game::line_table();
     Refereed::Value(referee::value(&table, pos, rule))

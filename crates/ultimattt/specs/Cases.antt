@@ -6,13 +6,14 @@ use Prim.Native.Nat.{ℕ, _*_}
 use lib.ListN.{getD, replicate}
 use Rattle.rules.specs.Rules.{hasLine, state, board, boardStates, gameState, moveError, play, legalMoves, replay, drawn, finalValue}
 use Rattle.rules.specs.Record.{bitAt, positionOf, positionRefusal, refusal, recordBit, recordOf}
+use Rattle.rules.specs.Refusals.{firstRefusal}
 use Rattle.machine.specs.Game.{backward, valueFrom, value}
 use Rattle.machine.specs.Machine.{Result, True, False, Unknown}
 use Rattle.plain.specs.Plain.{valueOf, plainSearch}
 use Rattle.plain.specs.Cases as plain-cases
 use Rattle.plain.specs.Cases.{record21, E, W, D, fields, starred}
 use Rattle.referee.specs.OpenCells.{openCells}
-use Rattle.calls.specs.Calls.{replayOutcome, refereeOutcome, afterMoves, replayCall, movesCall, refereeCall}
+use Rattle.calls.specs.Calls.{replayOutcome, refereeOutcome, afterMoves, outputRefusal, replayCall, movesCall, refereeRefusal, refereeCall}
 use Rattle.searches.specs.SearchAnswers.{answered-with}
 use Rattle.searches.specs.Searches.{Limits, limits, settings, rangeRefusal, searchRefusal, Refused, Answered, searchCall, fullOf, Draw, Full, Turned, fullCall}
 
@@ -90,7 +91,7 @@ pub record Cases : Type 0 where
   pub D-rule-2 : refereeCall D 2 ≡ refereeOutcome 0 0 1
 
 pub cases : Cases
-unfolding drawn finalValue hasLine state board boardStates gameState moveError play legalMoves replay bitAt positionOf positionRefusal refusal recordBit recordOf afterMoves replayCall movesCall openCells refereeCall backward valueFrom value valueOf rangeRefusal searchRefusal searchCall fullOf fullCall
+unfolding drawn finalValue hasLine state board boardStates gameState moveError play legalMoves replay bitAt positionOf positionRefusal refusal recordBit recordOf firstRefusal afterMoves outputRefusal replayCall movesCall openCells refereeRefusal refereeCall backward valueFrom value valueOf rangeRefusal searchRefusal searchCall fullOf fullCall
 cases = record {
   E-count = refl;
   E-first = refl;

@@ -1,32 +1,31 @@
--- `calls::replay` meets its contract, by the check that decides. Assumes nothing.
+-- `calls::replay` meets its contract: refused by a check, or the moves replayed. Assumes nothing.
 use mathlib.Core.Path.{sym, _∙_}
-use native.Mathlib.Omega.{arith}
 use Rattle.rules.specs.Record.{positionOf}
-use Rattle.calls.specs.Turned.{replay-refused, replay-short, replay-answered}
+use Rattle.calls.specs.Turned.{output-passes, replay-refused, replay-answered}
 use borrow.Author.Needs.{needs}
 use Rattle.calls.proofs.replay.Statement.{statement}
 use Rattle.calls.proofs.replay.Tie as tie
 
-load-requires : tie.Need-load-requires
-load-requires c κs = search needs
+load-for-requires : tie.Need-load-for-requires
+load-for-requires c κs = search needs
 
 returns : tie.Need-returns
-returns c = replay-refused _ _ _ _ (c .before .before .load .ensures .0) (c .if1 .taken)
-
-returns-2 : tie.Need-returns-2
-returns-2 c = replay-short _ _ _ (sym (c .before .before .before .load .ensures .0) ∙ c .before .if1 .left) (c .if2 .taken)
+returns c = replay-refused _ _ _ _ (c .before .before .load-for .ensures .0) (c .if1 .taken)
 
 replay-from-requires : tie.Need-replay-from-requires
-replay-from-requires c κs = ((positionOf _, c .before .before .before .before .before .load .ensures .1 (c .before .before .before .if1 .left)), c .before .before .if2 .left)
+replay-from-requires c κs =
+    let loaded = c .before .before .before .before .load-for in
+    let passed = c .before .before .if1 .left in
+    ((positionOf _, loaded .ensures .1 passed), output-passes _ _ _ (sym (loaded .ensures .0) ∙ passed) .1)
 
 same-length : tie.Need-same-length
 same-length c = search needs
 
-returns-3 : tie.Need-returns-3
-returns-3 c =
-    c .before .before .replay-from .ensures _ (c .before .before .before .before .before .before .before .before .load .ensures .1 (c .before .before .before .before .before .before .if1 .left))
-    ∙ replay-answered _ _ _ (sym (c .before .before .before .before .before .before .before .before .load .ensures .0) ∙ c .before .before .before .before .before .before .if1 .left) (c .before .before .before .before .before .if2 .left)
+returns-2 : tie.Need-returns-2
+returns-2 c =
+    let loaded = c .before .before .before .before .before .before .before .load-for in
+    let passed = c .before .before .before .before .before .if1 .left in
+    c .before .before .replay-from .ensures _ (loaded .ensures .1 passed) ∙ replay-answered _ _ _ (sym (loaded .ensures .0) ∙ passed)
 
 pub replay-spec : {M : Type 1} → statement M
-replay-spec =
-    tie.close (tie.spec load-requires returns returns-2 replay-from-requires same-length returns-3)
+replay-spec = tie.close (tie.spec load-for-requires returns replay-from-requires same-length returns-2)
