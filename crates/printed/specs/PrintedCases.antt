@@ -8,10 +8,11 @@ use lib.ListN.{length, getD, length-append}
 use lib.Seq.{take-at, getD-at}
 use Rattle.rules.specs.Rules.{hasLine, state, board, boardStates, gameState}
 use Rattle.rules.specs.Record.{bitAt, positionOf, positionRefusal, refusal}
+use Rattle.rules.specs.Refusals.{firstRefusal}
 use Rattle.machine.specs.Machine.{True}
 use Rattle.plain.specs.Cases.{W, D, fields, computedSearch, starred}
-use Rattle.searches.specs.Searches.{Searched, Answered, Refused, rangeRefusal, searchRefusal, searchCall}
-use Rattle.searches.specs.SearchAnswers.{answered-with}
+use Rattle.searches.specs.Searches.{Searched, Answered, Refused, searchRefusal, searchCall}
+use Rattle.searches.specs.SearchAnswers.{search-answered}
 use Rattle.printed.specs.Printed.{byte, decimal, fieldsLine, refusedLine, answerLine, judgeWords, judgeLimits, judgeLine}
 use Rattle.printed.specs.Answers.{wrong-length, right-length}
 
@@ -24,16 +25,16 @@ line-of bytes rule s e q =
     ∙ ap answerLine q
 
 W-won : searchCall W judgeWords 0 judgeLimits ≡ Answered (fields True 0 2147483648 2 1 1 0 1 0)
-unfolding searchCall searchRefusal rangeRefusal refusal positionRefusal positionOf bitAt hasLine state board boardStates gameState computedSearch
+unfolding searchCall searchRefusal firstRefusal refusal positionRefusal positionOf bitAt hasLine state board boardStates gameState computedSearch
 W-won = refl
 
 W-rule : searchCall W judgeWords 3 judgeLimits ≡ Refused 10
-unfolding searchCall searchRefusal rangeRefusal refusal positionRefusal positionOf bitAt hasLine state board boardStates gameState
+unfolding searchCall searchRefusal firstRefusal refusal positionRefusal positionOf bitAt hasLine state board boardStates gameState
 W-rule = refl
 
 -- D passes search's checks under each rule
 D-accepted : (searchRefusal D judgeWords 0 judgeLimits ≡ 0) × (searchRefusal D judgeWords 1 judgeLimits ≡ 0) × (searchRefusal D judgeWords 2 judgeLimits ≡ 0)
-unfolding searchRefusal rangeRefusal refusal positionRefusal positionOf bitAt hasLine state board boardStates gameState
+unfolding searchRefusal firstRefusal refusal positionRefusal positionOf bitAt hasLine state board boardStates gameState
 D-accepted = (refl, refl, refl)
 
 pub record Lines : Type 0 where
@@ -51,9 +52,9 @@ pub lines : Lines
 unfolding answerLine fieldsLine refusedLine decimal
 lines = record {
   W-0 = line-of W 0 _ refl W-won;
-  D-0 = line-of D 0 _ refl (answered-with D judgeWords 0 judgeLimits _ (D-accepted .0) (starred .D-rule0));
-  D-1 = line-of D 1 _ refl (answered-with D judgeWords 1 judgeLimits _ (D-accepted .1) (starred .D-rule1));
-  D-2 = line-of D 2 _ refl (answered-with D judgeWords 2 judgeLimits _ (D-accepted .2) (starred .D-rule2));
+  D-0 = line-of D 0 _ refl (search-answered D judgeWords 0 judgeLimits (D-accepted .0) _ (starred .D-rule0));
+  D-1 = line-of D 1 _ refl (search-answered D judgeWords 1 judgeLimits (D-accepted .1) _ (starred .D-rule1));
+  D-2 = line-of D 2 _ refl (search-answered D judgeWords 2 judgeLimits (D-accepted .2) _ (starred .D-rule2));
   W-3 = line-of W 3 _ refl W-rule;
   none = wrong-length [] (λ e. omega (arith, e));
 }

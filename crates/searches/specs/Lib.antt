@@ -1,5 +1,7 @@
 pub mod Searches
 pub mod Answers
+pub mod Accepting
+pub mod SearchAnswers
+pub mod Pools
 pub mod ThirdCondition
 pub mod TwoSearches
-pub mod SearchAnswers

@@ -1,16 +1,17 @@
 -- What search and full verdict answer and what they leave in the pool, as functions of what comes in. The checks come in the order of the table under
 -- 'Turned back'. Rests on the record's checks and on the plain machine of a record.
 use mathlib.Core.Path.{_≡_}
-use mathlib.Core.Bool.{Bool, cond, not, _&&_}
-use mathlib.Core.List.{List}
-use Prim.Native.Nat.{ℕ, zero, suc, _*_, _/_}
-use lib.Dec.{eqb, ltb, leb}
+use mathlib.Core.List.{List, [], _∷_}
+use Prim.Native.Nat.{ℕ, _*_, _/_}
+use lib.Dec.{ltb}
 use lib.ListN.{length, drop}
 use Rattle.rules.specs.Record.{refusal}
+use Rattle.rules.specs.Refusals.{refuses, firstRefusal}
 use Rattle.machine.specs.Machine.{Settings, Result, Verdict, True, False, Unknown}
 use Rattle.plain.specs.Plain.{plainSearch}
+use Rattle.calls.specs.Calls.{lastRule, answerUnless}
 
--- The ends of the ranges: pool in nodes, interval, budget; rules are 0, 1 and 2.
+-- The ends of the ranges: pool in nodes, interval, budget.
 abbrev pub poolLeast : ℕ
 poolLeast = 1
 
@@ -25,9 +26,6 @@ intervalMost = 1000000
 
 abbrev pub budgetMost : ℕ
 budgetMost = 1000000000000
-
-abbrev pub rules : ℕ
-rules = 3
 
 -- What comes in beside the record, the rule and the pool.
 abbrev pub Limits : Type 0
@@ -44,29 +42,28 @@ nodes words = words / 5
 abbrev pub settings : ℕ → Limits → Settings
 settings words L = record { pool = nodes words; limit = L .limit; budget = L .budget; interval = L .interval }
 
--- Check 10, but for the rule.
-abbrev pub inRange : Limits → Bool
-inRange L = leb intervalLeast (L .interval) && leb (L .interval) intervalMost && leb (L .budget) budgetMost
-
--- Checks 8, 9 and 10: no node in the pool, too many, a number out of its range; or 0.
-unfoldable pub rangeRefusal : (nodes rule : ℕ) → Limits → ℕ
-rangeRefusal n rule L = cond (ltb n poolLeast) 8 (cond (ltb poolMost n) 9 (cond (not (ltb rule rules && inRange L)) 10 0))
-
--- The number of the first check that turns a search back, or 0.
+-- The checks of a search, in their order: the record's; no node in the pool, or too many; a rule, an interval or a budget out of its range. The number of the
+-- first that refuses, or 0.
 unfoldable pub searchRefusal : (bytes : List ℕ) (words rule : ℕ) → Limits → ℕ
-searchRefusal bytes words rule L = cond (not (eqb (refusal bytes) 0)) (refusal bytes) (rangeRefusal (nodes words) rule L)
+searchRefusal bytes words rule L =
+    firstRefusal (
+    refusal bytes
+    ∷ refuses 8 (ltb (nodes words) poolLeast)
+    ∷ refuses 9 (ltb poolMost (nodes words))
+    ∷ refuses 10 (ltb lastRule rule)
+    ∷ refuses 10 (ltb (L .interval) intervalLeast)
+    ∷ refuses 10 (ltb intervalMost (L .interval))
+    ∷ refuses 10 (ltb budgetMost (L .budget))
+    ∷ []
+    )
 
 -- A search is refused, or answered with the plain machine's result, which may be Unknown.
 pub data Searched : Type 0 where
   Refused : ℕ → Searched
   Answered : Result → Searched
 
-abbrev pub answerTo : ℕ → Result → Searched
-answerTo zero r = Answered r
-answerTo (suc n) r = Refused (suc n)
-
 unfoldable pub searchCall : (bytes : List ℕ) (words rule : ℕ) → Limits → Searched
-searchCall bytes words rule L = answerTo (searchRefusal bytes words rule L) (plainSearch rule (settings words L) bytes)
+searchCall bytes words rule L = answerUnless (searchRefusal bytes words rule L) Refused (Answered (plainSearch rule (settings words L) bytes))
 
 -- The pool's words afterwards: untouched if it was refused; otherwise those past the capacity are.
 abbrev pub Untouched : List ℕ → List ℕ → Type 0
@@ -94,12 +91,11 @@ pub data Judged : Type 0 where
   Turned : ℕ → Judged
   Full : FullVerdict → Result → Result → Judged
 
-abbrev pub judgedAs : ℕ → Result → Result → Judged
-judgedAs zero first second = Full (fullOf (first .verdict) (second .verdict)) first second
-judgedAs (suc n) first second = Turned (suc n)
+abbrev pub bothResults : Result → Result → Judged
+bothResults first second = Full (fullOf (first .verdict) (second .verdict)) first second
 
 unfoldable pub fullCall : (bytes : List ℕ) (words : ℕ) → Limits → Judged
-fullCall bytes words L = judgedAs (searchRefusal bytes words 0 L) (plainSearch 1 (settings words L) bytes) (plainSearch 2 (settings words L) bytes)
+fullCall bytes words L = answerUnless (searchRefusal bytes words 0 L) Turned (bothResults (plainSearch 1 (settings words L) bytes) (plainSearch 2 (settings words L) bytes))
 
 abbrev pub PoolAfterFull : Judged → List ℕ → List ℕ → Type 0
 PoolAfterFull (Turned n) before after = after ≡ before

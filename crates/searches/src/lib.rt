@@ -1,18 +1,22 @@
-// The calls search and full verdict, and two searches of one record.
+// The calls search and full verdict, the checks that every search takes, and two searches of one record.
 
 ghost use mathlib.Core.Path.{_≡_};
 ghost use Prim.Native.Nat.{ℕ};
 ghost use lib.ListN.{length};
+ghost use Rattle.rules.specs.Record.{positionOf};
+ghost use Rattle.game.specs.Words.{Holds};
 ghost use Rattle.machine.specs.Machine.{Result};
 ghost use Rattle.prove.specs.Numbers.{verdict};
-ghost use Rattle.searches.specs.Searches.{rangeRefusal, searchCall, PoolAfter, fullOf, fullCall, PoolAfterFull};
+ghost use Rattle.searches.specs.Searches.{searchRefusal, searchCall, PoolAfter, fullOf, fullCall, PoolAfterFull};
 ghost use Rattle.searches.specs.Searches.{Answered as answers};
 ghost use Rattle.searches.specs.Answers.{limitsOf, searched, fullVerdict, judged};
 ghost use Rattle.searches.specs.ThirdCondition.{ThirdCondition};
 use calls::LAST_RULE;
+use calls::refusals;
 use pn::SearchResult;
 use pn::Settings;
 use prove::Evaluation;
+use record::Loaded;
 
 // The ends of search's ranges: nodes of the pool, interval, budget.
 const LEAST_NODES: usize = 1;
@@ -38,42 +42,36 @@ pub enum Outcome {
     Refused(u8),
 }
 
-// Checks 8, 9 and 10: their number, or 0.
-fn range_refusal(nodes: usize, rule: u64, l: SearchLimits) -> u8
-    ensures { λ r. ⌜ r ≡ rangeRefusal nodes rule (limitsOf l) ⌝ }
+// All of search's checks, in their order: 0 and the position, or the number of the first that refuses.
+pub fn accept(bytes: &[u8], words: &[u32], rule: u64, l: SearchLimits) -> Loaded
+    ensures { λ r. ⌜ r .code ≡ searchRefusal (now (bytes .entry)) (length (now (words .entry))) rule (limitsOf l) ⌝ }
+    ensures position { λ r. ⌜ (r .code ≡ 0 → Holds (positionOf (now (bytes .entry))) (r .game .words) 0) ⌝ }
 {
-    if nodes < LEAST_NODES {
-        return 8;
+    let loaded = record::load(bytes);
+    let game = loaded.game;
+    let nodes = node_pool::capacity(words);
+    let checks = [
+        loaded.code,
+        refusals::refuses(8, nodes < LEAST_NODES),
+        refusals::refuses(9, nodes > MOST_NODES),
+        refusals::refuses(10, rule > LAST_RULE),
+        refusals::refuses(10, l.interval < LEAST_INTERVAL),
+        refusals::refuses(10, l.interval > MOST_INTERVAL),
+        refusals::refuses(10, l.budget > MOST_BUDGET),
+    ];
+    Loaded {
+        code: refusals::first(&checks),
+        game,
     }
-    if nodes > MOST_NODES {
-        return 9;
-    }
-    if rule > LAST_RULE {
-        return 10;
-    }
-    if l.interval < LEAST_INTERVAL {
-        return 10;
-    }
-    if l.interval > MOST_INTERVAL {
-        return 10;
-    }
-    if l.budget > MOST_BUDGET {
-        return 10;
-    }
-    0
 }
 
 // Searches a record's position in the lent pool.
 pub fn search(bytes: &[u8], words: &mut [u32], rule: u64, l: SearchLimits) -> Outcome
     ensures { λ r. ⌜ (searched r ≡ searchCall (now (bytes .entry)) (length (now (words .entry))) rule (limitsOf l)) × PoolAfter (searched r) (now (words .entry)) (now (words .exit)) ⌝ }
 {
-    let loaded = record::load(bytes);
+    let loaded = accept(bytes, words, rule, l);
     if loaded.code != 0 {
         return Outcome::Refused(loaded.code);
-    }
-    let refused = range_refusal(node_pool::capacity(words), rule, l);
-    if refused != 0 {
-        return Outcome::Refused(refused);
     }
     let start = loaded.game;
     let s = Settings {
@@ -154,6 +152,7 @@ pub fn full_verdict(bytes: &[u8], words: &mut [u32], l: SearchLimits) -> FullOut
         Outcome::Answered(r) => {
             let second = search(bytes, words, 2, l);
             match second {
+                // No second search is refused: it has the checks of the first, and both rules pass.
                 Outcome::Refused(n) => FullOutcome::TurnedBack(n),
                 Outcome::Answered(s) => {
                     let with_rule_1 = r.verdict;

@@ -14,8 +14,8 @@ use Rattle.plain.specs.Cases as plain-cases
 use Rattle.plain.specs.Cases.{record21, E, W, D, fields, starred}
 use Rattle.referee.specs.OpenCells.{openCells}
 use Rattle.calls.specs.Calls.{replayOutcome, refereeOutcome, afterMoves, outputRefusal, replayCall, movesCall, refereeRefusal, refereeCall}
-use Rattle.searches.specs.SearchAnswers.{answered-with}
-use Rattle.searches.specs.Searches.{Limits, limits, settings, rangeRefusal, searchRefusal, Refused, Answered, searchCall, fullOf, Draw, Full, Turned, fullCall}
+use Rattle.searches.specs.SearchAnswers.{search-answered, full-with}
+use Rattle.searches.specs.Searches.{Limits, limits, settings, searchRefusal, Refused, Answered, searchCall, fullOf, Draw, Full, Turned, fullCall}
 
 -- An output of 21 bytes, and one of 81.
 abbrev pub out21 : List ℕ
@@ -37,12 +37,7 @@ UnderEach bytes words L r = (searchCall bytes words 0 L ≡ Answered r) × (sear
 
 under-each : (bytes : List ℕ) (words : ℕ) (L : Limits) (r : Result) → searchRefusal bytes words 0 L ≡ 0 → searchRefusal bytes words 1 L ≡ 0 → searchRefusal bytes words 2 L ≡ 0
     → plain-cases.UnderEach (settings words L) bytes r → UnderEach bytes words L r
-under-each bytes words L r e0 e1 e2 h = (answered-with bytes words 0 L r e0 (h .0), answered-with bytes words 1 L r e1 (h .1), answered-with bytes words 2 L r e2 (h .2))
-
-full : (bytes : List ℕ) (words : ℕ) (L : Limits) (r s : Result) → searchRefusal bytes words 0 L ≡ 0 → plainSearch 1 (settings words L) bytes ≡ r → plainSearch 2 (settings words L) bytes ≡ s
-    → fullCall bytes words L ≡ Full (fullOf (r .verdict) (s .verdict)) r s
-unfolding fullCall
-full bytes words L r s e q p = rw (e, q, p)
+under-each bytes words L r e0 e1 e2 h = (search-answered bytes words 0 L e0 r (h .0), search-answered bytes words 1 L e1 r (h .1), search-answered bytes words 2 L e2 r (h .2))
 
 -- Each field is a case; moves and records are hexadecimal in document 01.
 pub record Cases : Type 0 where
@@ -91,7 +86,7 @@ pub record Cases : Type 0 where
   pub D-rule-2 : refereeCall D 2 ≡ refereeOutcome 0 0 1
 
 pub cases : Cases
-unfolding drawn finalValue hasLine state board boardStates gameState moveError play legalMoves replay bitAt positionOf positionRefusal refusal recordBit recordOf firstRefusal afterMoves outputRefusal replayCall movesCall openCells refereeRefusal refereeCall backward valueFrom value valueOf rangeRefusal searchRefusal searchCall fullOf fullCall
+unfolding drawn finalValue hasLine state board boardStates gameState moveError play legalMoves replay bitAt positionOf positionRefusal refusal recordBit recordOf firstRefusal afterMoves outputRefusal replayCall movesCall openCells refereeRefusal refereeCall backward valueFrom value valueOf searchRefusal searchCall fullOf fullCall
 cases = record {
   E-count = refl;
   E-first = refl;
@@ -107,10 +102,10 @@ cases = record {
   E-short = under-each E (pool 81) (judging 1) _ refl refl refl (starred .E-short);
   W-won = under-each W (pool 6) (judging 1) _ refl refl refl (starred .W-won);
   W-short = under-each W (pool 5) (judging 1) _ refl refl refl (starred .W-short);
-  D-0-False = answered-with D (pool 3276) 0 (judging 100000) _ refl (starred .D-rule0);
-  D-1-False = answered-with D (pool 3276) 1 (judging 100000) _ refl (starred .D-rule1);
-  D-2-True = answered-with D (pool 3276) 2 (judging 100000) _ refl (starred .D-rule2);
-  D-full = full D (pool 3276) (judging 100000) _ _ refl (starred .D-rule1) (starred .D-rule2);
+  D-0-False = search-answered D (pool 3276) 0 (judging 100000) refl _ (starred .D-rule0);
+  D-1-False = search-answered D (pool 3276) 1 (judging 100000) refl _ (starred .D-rule1);
+  D-2-True = search-answered D (pool 3276) 2 (judging 100000) refl _ (starred .D-rule2);
+  D-full = full-with D (pool 3276) (judging 100000) refl _ _ (starred .D-rule1) (starred .D-rule2);
   D-target-0 = refl;
   no-pool = refl;
   rule-3 = refl;

@@ -2,7 +2,8 @@
 use mathlib.Core.Path.{sym, ap, _∙_}
 use Rattle.searches.specs.Searches.{searchCall}
 use Rattle.searches.specs.Answers.{limitsOf, searched}
-use Rattle.searches.specs.SearchAnswers.{full-refused, full-not-refused, full-answered, untouched-twice}
+use Rattle.searches.specs.SearchAnswers.{full-refused, full-not-refused, full-answered}
+use Rattle.searches.specs.Pools.{untouched-twice}
 use borrow.Author.Needs.{needs}
 use Rattle.searches.proofs.full_verdict.Statement.{statement}
 use Rattle.searches.proofs.full_verdict.Tie as tie
@@ -35,7 +36,7 @@ returns : tie.Need-returns
 returns c =
     let one = c .before .before .before .before .before .search in
     let is = c .before .first .given .1 in
-    (full-refused _ _ _ _ (sym (ap searched is) ∙ one .ensures .0), rw is at (one .ensures .1))
+    (full-refused _ _ _ _ (sym (one .ensures .0) ∙ ap searched is), rw is at (one .ensures .1))
 
 same-length-2 : tie.Need-same-length-2
 same-length-2 c = search needs
@@ -45,8 +46,8 @@ returns-2 c =
     let one = c .before .before .before .before .before .before .before .before .before .before .before .before .search in
     let two = c .before .before .before .before .before .search2 in
     let args = c .before .before .before .before .before .before .before .before .before .before .before .before .before .before .before .before .args in
-    absurd (full-not-refused (args .bytes .now) _ (limitsOf (args .l)) _ (sym (ap searched (c .before .before .before .before .before .before .before .before .first2 .given .1)) ∙ one .ensures .0) _
-    (sym (ap searched (c .before .second .given .1)) ∙ two .ensures .0 ∙ ap (λ n. searchCall (args .bytes .now) n 2 (limitsOf (args .l))) (one .kept .1 .0)))
+    absurd (full-not-refused (args .bytes .now) _ (limitsOf (args .l)) _ (sym (one .ensures .0) ∙ ap searched (c .before .before .before .before .before .before .before .before .first2 .given .1)) _
+    (ap (λ n. searchCall (args .bytes .now) n 2 (limitsOf (args .l))) (sym (one .kept .1 .0)) ∙ sym (two .ensures .0) ∙ ap searched (c .before .second .given .1)))
 
 same-length-3 : tie.Need-same-length-3
 same-length-3 c = search needs
@@ -58,8 +59,8 @@ returns-3 c =
     let args = c .before .before .before .before .before .before .before .before .before .before .before .before .before .before .before .before .before .args in
     let first = c .before .before .before .before .before .before .before .before .before .first2 .given .1 in
     let second = c .before .before .second2 .given .1 in (
-      full-answered (args .bytes .now) _ (limitsOf (args .l)) _ (sym (ap searched first) ∙ one .ensures .0) _
-          (sym (ap searched second) ∙ two .ensures .0 ∙ ap (λ n. searchCall (args .bytes .now) n 2 (limitsOf (args .l))) (one .kept .1 .0)) _ (c .full-of .ensures),
+      full-answered (args .bytes .now) _ (limitsOf (args .l)) _ (sym (one .ensures .0) ∙ ap searched first) _
+          (ap (λ n. searchCall (args .bytes .now) n 2 (limitsOf (args .l))) (sym (one .kept .1 .0)) ∙ sym (two .ensures .0) ∙ ap searched second) _ (c .full-of .ensures),
       untouched-twice (args .words .now) (one .last .1 .0) (two .last .1 .0) (rw first at (one .ensures .1)) (rw second at (two .ensures .1)),
     )
 

@@ -1,53 +1,41 @@
--- `searches::search` meets its contract, by the check that decides. Assumes nothing.
-use mathlib.Core.Path.{refl, sym, ap, _∙_}
+-- `searches::search` meets its contract: refused by a check, or the search's result. Assumes nothing.
+use mathlib.Core.Path.{refl, sym, _∙_}
 use Rattle.rules.specs.Checks.{loads, loads-accepted}
-use Rattle.searches.specs.Searches.{rangeRefusal}
 use Rattle.searches.specs.Answers.{limitsOf}
-use Rattle.searches.specs.SearchAnswers.{search-refused, search-out-of-range, search-answered, to-search, untouched}
+use Rattle.searches.specs.Accepting.{accepts, to-search}
+use Rattle.searches.specs.SearchAnswers.{search-refused, search-answered}
+use Rattle.searches.specs.Pools.{untouched}
 use borrow.Author.Needs.{needs}
 use Rattle.searches.proofs.search.Statement.{statement}
 use Rattle.searches.proofs.search.Tie as tie
 
-load-requires : tie.Need-load-requires
-load-requires c κs = search needs
-
-returns : tie.Need-returns
-returns c = (search-refused _ _ _ _ _ (c .before .before .load .ensures .0) (c .if1 .taken), refl)
-
-capacity-requires : tie.Need-capacity-requires
-capacity-requires c κs = search needs
-
-range-refusal-requires : tie.Need-range-refusal-requires
-range-refusal-requires c κs = search needs
+accept-requires : tie.Need-accept-requires
+accept-requires c κs = search needs
 
 same-length : tie.Need-same-length
 same-length c = search needs
 
-returns-2 : tie.Need-returns-2
-returns-2 c = (search-out-of-range _ _ _ _ (sym (c .before .before .before .before .before .before .load .ensures .0) ∙ c .before .before .before .before .if1 .left) _ (c .before .range-refusal .ensures ∙ ap (λ k. rangeRefusal k (c .before .before .before .before .before .before .before .before .before .args .rule) (limitsOf (c .before .before .before .before .before .before .before .before .before .args .l))) (c .before .before .capacity .ensures)) (c .if2 .taken), refl)
+returns : tie.Need-returns
+returns c = (search-refused _ _ _ _ _ (c .before .before .accept .ensures .0) (c .if1 .taken), refl)
 
 search-requires : tie.Need-search-requires
-search-requires c κs = to-search _ _ _ _ (limitsOf (c .before .before .before .before .before .before .before .before .before .before .before .args .l)) (c .before .before .before .before .before .before .before .before .load .ensures .1 (c .before .before .before .before .before .before .if1 .left)) (sym (c .before .before .before .before .before .before .before .before .load .ensures .0) ∙ c .before .before .before .before .before .before .if1 .left) (sym (c .before .before .before .range-refusal .ensures ∙ ap (λ k. rangeRefusal k (c .before .before .before .before .before .before .before .before .before .before .before .args .rule) (limitsOf (c .before .before .before .before .before .before .before .before .before .before .before .args .l))) (c .before .before .before .before .capacity .ensures)) ∙ c .before .before .if2 .left)
+search-requires c κs =
+    let accepted = c .before .before .before .before .accept in
+    let none = c .before .before .if1 .left in
+    to-search _ _ _ _ (limitsOf (c .before .before .before .before .before .before .before .before .args .l)) (accepted .ensures .1 none) (sym (accepted .ensures .0) ∙ none)
 
 same-length-2 : tie.Need-same-length-2
 same-length-2 c = search needs
 
-returns-3 : tie.Need-returns-3
-returns-3 c =
-    let none = (sym (c .before .before .before .before .before .before .before .before .before .before .before .load .ensures .0) ∙ c .before .before .before .before .before .before .before .before .before .if1 .left) in
-    let done = c .before .before .search .ensures _ (c .before .before .before .before .before .before .before .before .before .before .before .load .ensures .1 (c .before .before .before .before .before .before .before .before .before .if1 .left)) (loads-accepted _ (loads _ none)) in
-    (search-answered _ _ _ _ none (sym (c .before .before .before .before .before .before .range-refusal .ensures ∙ ap (λ k. rangeRefusal k (c .before .before .before .before .before .before .before .before .before .before .before .before .before .before .args .rule) (limitsOf (c .before .before .before .before .before .before .before .before .before .before .before .before .before .before .args .l))) (c .before .before .before .before .before .before .before .capacity .ensures)) ∙ c .before .before .before .before .before .if2 .left) _ (done .result-is), untouched (c .before .before .before .before .before .before .before .before .before .before .before .before .before .before .args .words .now) (c .before .before .search .last .0) (c .before .before .search .kept .0) (done .past))
+returns-2 : tie.Need-returns-2
+returns-2 c =
+    let accepted = c .before .before .before .before .before .before .before .accept in
+    let none = c .before .before .before .before .before .if1 .left in
+    let passed = sym (accepted .ensures .0) ∙ none in
+    let args = c .before .before .before .before .before .before .before .before .before .before .before .args in
+    let done = c .before .before .search in
+    let result = done .ensures _ (accepted .ensures .1 none) (loads-accepted _ (loads _ (accepts _ _ _ (limitsOf (args .l)) passed .loads))) in
+    (sym (search-answered _ _ _ _ passed _ (sym (result .result-is))), untouched (args .words .now) (done .last .0) (done .kept .0) (result .past))
 
 pub search-spec : {M : Type 1} → statement M
-search-spec =
-    tie.close
-    (tie.spec
-    load-requires
-    returns
-    capacity-requires
-    range-refusal-requires
-    same-length
-    returns-2
-    search-requires
-    same-length-2
-    returns-3)
+search-spec = tie.close (tie.spec accept-requires same-length returns search-requires same-length-2 returns-2)

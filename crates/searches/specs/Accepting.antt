@@ -1,0 +1,71 @@
+-- What the checks of a search tell: one that is not refused has a record that loads and numbers within their ranges, and that is what the search asks for.
+-- Rests on Searches, calls' Refusing and pn's Searchable.
+use mathlib.Core.Path.{_≡_}
+use mathlib.Core.List.{List}
+use Prim.Native.Nat.{ℕ, _≤_}
+use native.Mathlib.Omega.{arith}
+use borrow.Author.Tests.{le-ltb}
+use lib.ListN.{length}
+use Rattle.rules.specs.Record.{positionOf, refusal}
+use Rattle.rules.specs.Checks.{loads, loads-accepted}
+use Rattle.rules.specs.RefusalLaws.{none-refuses}
+use Rattle.game.specs.Words.{Holds}
+use Rattle.machine.specs.Reached.{PoolInRange}
+use Rattle.pn.specs.Searches.{Searchable}
+use Rattle.calls.specs.Calls.{lastRule}
+use Rattle.calls.specs.Refusing.{passes-test}
+use Rattle.searches.specs.Searches.{Limits, intervalLeast, intervalMost, budgetMost, settings, searchRefusal}
+
+pub record Accepts (bytes : List ℕ) (words rule : ℕ) (L : Limits) : Type 0 where
+  pub loads : refusal bytes ≡ 0
+  pub range : PoolInRange (settings words L)
+  pub rule-most : rule ≤ lastRule
+  pub interval-least : intervalLeast ≤ L .interval
+  pub interval-most : L .interval ≤ intervalMost
+  pub budget-most : L .budget ≤ budgetMost
+
+pub accepts : (bytes : List ℕ) (words rule : ℕ) (L : Limits) → searchRefusal bytes words rule L ≡ 0 → Accepts bytes words rule L
+unfolding searchRefusal
+accepts bytes words rule L e =
+    let record-loads = none-refuses _ _ e in
+    let pool-least = passes-test 7 _ _ _ (record-loads .1) in
+    let pool-most = passes-test 8 _ _ _ (pool-least .1) in
+    let rule-most = passes-test 9 _ _ _ (pool-most .1) in
+    let interval-least = passes-test 9 _ _ _ (rule-most .1) in
+    let interval-most = passes-test 9 _ _ _ (interval-least .1) in
+    let budget-most = passes-test 9 _ _ _ (interval-most .1) in
+    record {
+      loads = record-loads .0;
+      range = record { some = pool-least .0; most = pool-most .0 };
+      rule-most = rule-most .0;
+      interval-least = interval-least .0;
+      interval-most = interval-most .0;
+      budget-most = budget-most .0;
+    }
+
+-- the checks are the same under each of the rules
+pub same-checks : (bytes : List ℕ) (words rule : ℕ) (L : Limits) → rule ≤ lastRule → searchRefusal bytes words rule L ≡ searchRefusal bytes words 0 L
+unfolding searchRefusal
+same-checks bytes words rule L l = rw (le-ltb lastRule rule l)
+
+-- what the search asks for, once every check is passed
+pub to-search : (bytes g w : List ℕ) (rule : ℕ) (L : Limits) → Holds (positionOf bytes) g 0 → searchRefusal bytes (length w) rule L ≡ 0
+    → Searchable g w (record { rule = rule; limit = L .limit; budget = L .budget; interval = L .interval })
+to-search bytes g w rule L holds none =
+    let a = accepts bytes (length w) rule L none in
+    record {
+      startable = record {
+        pos = positionOf bytes;
+        holds = holds;
+        accepted = loads-accepted bytes (loads bytes (a .loads));
+        some = omega (arith, a .range .some);
+        few = omega (arith, a .range .most);
+      };
+      ranges = record {
+        some = omega (arith, a .range .some);
+        few = omega (arith, a .range .most);
+        interval-some = omega (arith, a .interval-least);
+        budget-most = a .budget-most;
+        rule-few = omega (arith, a .rule-most);
+      };
+    }
