@@ -1,8 +1,9 @@
 -- The calls by the check that decides: refused by a check, or answered. Rests on Calls and Refusing.
-use mathlib.Core.Path.{_≡_, sym, _∙_}
+use mathlib.Core.Path.{_≡_, refl, sym}
 use mathlib.Core.Bool.{Bool, cond}
 use mathlib.Core.List.{List, [], _∷_, _++_}
-use Prim.Native.Nat.{ℕ, _≤_}
+use Prim.Native.Nat.{ℕ, zero, suc, _≤_}
+use native.Mathlib.Omega.{arith}
 use lib.Dec.{ltb}
 use lib.ListN.{length, drop}
 use Rattle.rules.specs.Rules.{Position, Replayed, replay, legalMoves}
@@ -12,7 +13,7 @@ use Rattle.rules.specs.Refusals.{refuses, firstRefusal}
 use Rattle.rules.specs.RefusalLaws.{none-refuses, first-refuses, rest-refuses}
 use Rattle.plain.specs.Plain.{recordValue}
 use Rattle.referee.specs.OpenCells.{openCells}
-use Rattle.calls.specs.Calls.{lastRule, replayOutcome, movesOutcome, refereeOutcome, afterMoves, listed, outputRefusal, refereeRefusal, replayCall, movesCall, refereeCall}
+use Rattle.calls.specs.Calls.{lastRule, answerUnless, RefereeOutcome, replayOutcome, movesOutcome, refereeOutcome, afterMoves, listed, outputRefusal, refereeRefusal, replayCall, movesCall, refereeCall}
 use Rattle.calls.specs.Refusing.{passes-test, refused-by, passed-all}
 
 -- what passing checks 1 to 7 tells
@@ -56,6 +57,18 @@ module _ (bytes : List ℕ) (rule : ℕ) where
   pub referee-answered : refereeRefusal bytes rule ≡ 0 → (v : Bool) → v ≡ recordValue rule bytes → refereeOutcome 0 0 (cond v 1 2) ≡ refereeCall bytes rule
   unfolding refereeCall
   referee-answered e v q = rw (e, q)
+
+  -- and back: an answer is the value
+  pub referee-value : refereeCall bytes rule .number ≡ 0 → refereeCall bytes rule .value ≡ cond (recordValue rule bytes) 1 2
+  unfolding refereeCall
+  referee-value e = go (refereeRefusal bytes rule) e
+    where
+      answer : ℕ → RefereeOutcome
+      answer k = answerUnless k (λ n. refereeOutcome n 0 0) (refereeOutcome 0 0 (cond (recordValue rule bytes) 1 2))
+
+      go : (k : ℕ) → answer k .number ≡ 0 → answer k .value ≡ cond (recordValue rule bytes) 1 2
+      go zero h = refl
+      go (suc k) h = absurd (omega arith)
 
 -- what the moves come to
 pub after-reached : (x : Replayed) (p : Position) (out out′ : List ℕ) → x ≡ Reached p → out′ ≡ recordOf p ++ drop 21 out → replayOutcome 0 0 out′ ≡ afterMoves x out

@@ -127,11 +127,11 @@ fn load_for(bytes: &[u8], room: usize, needed: usize) -> Loaded
     ensures { λ r. ⌜ (r .code ≡ outputRefusal (now (bytes .entry)) room needed) × (r .code ≡ 0 → Holds (positionOf (now (bytes .entry))) (r .game .words) 0) ⌝ }
 {
     let loaded = record::load(bytes);
-    let game = loaded.game;
+    let start = loaded.game;
     let checks = [loaded.code, refusals::refuses(7, room < needed)];
     Loaded {
         code: refusals::first(&checks),
-        game,
+        game: start,
     }
 }
 
@@ -139,7 +139,8 @@ fn load_for(bytes: &[u8], room: usize, needed: usize) -> Loaded
 pub fn replay(bytes: &[u8], moves: &[u8], out: &mut [u8]) -> Replayed
     ensures { λ r. ⌜ replayed r (now (out .exit)) ≡ replayCall (now (bytes .entry)) (now (moves .entry)) (now (out .entry)) ⌝ }
 {
-    let loaded = load_for(bytes, out.len(), RECORD_LENGTH);
+    let room = out.len();
+    let loaded = load_for(bytes, room, RECORD_LENGTH);
     if loaded.code != 0 {
         return Replayed::Refused(loaded.code);
     }

@@ -11,7 +11,7 @@ use Rattle.rules.specs.Record.{bitAt, positionOf, positionRefusal, refusal}
 use Rattle.rules.specs.Refusals.{firstRefusal}
 use Rattle.machine.specs.Machine.{True}
 use Rattle.plain.specs.Cases.{W, D, fields, computedSearch, starred}
-use Rattle.searches.specs.Searches.{Searched, Answered, Refused, searchRefusal, searchCall}
+use Rattle.searches.specs.Searches.{nodes, Searched, Answered, Refused, searchRefusal, searchCall}
 use Rattle.searches.specs.SearchAnswers.{search-answered}
 use Rattle.printed.specs.Printed.{byte, decimal, fieldsLine, refusedLine, answerLine, judgeWords, judgeLimits, judgeLine}
 use Rattle.printed.specs.Answers.{wrong-length, right-length}
@@ -33,7 +33,7 @@ unfolding searchCall searchRefusal firstRefusal refusal positionRefusal position
 W-rule = refl
 
 -- D passes search's checks under each rule
-D-accepted : (searchRefusal D judgeWords 0 judgeLimits ≡ 0) × (searchRefusal D judgeWords 1 judgeLimits ≡ 0) × (searchRefusal D judgeWords 2 judgeLimits ≡ 0)
+D-accepted : (searchRefusal D (nodes judgeWords) 0 judgeLimits ≡ 0) × (searchRefusal D (nodes judgeWords) 1 judgeLimits ≡ 0) × (searchRefusal D (nodes judgeWords) 2 judgeLimits ≡ 0)
 unfolding searchRefusal firstRefusal refusal positionRefusal positionOf bitAt hasLine state board boardStates gameState
 D-accepted = (refl, refl, refl)
 

@@ -14,7 +14,7 @@ use Rattle.machine.specs.Reached.{PoolInRange}
 use Rattle.pn.specs.Searches.{Searchable}
 use Rattle.calls.specs.Calls.{lastRule}
 use Rattle.calls.specs.Refusing.{passes-test}
-use Rattle.searches.specs.Searches.{Limits, intervalLeast, intervalMost, budgetMost, settings, searchRefusal}
+use Rattle.searches.specs.Searches.{Limits, intervalLeast, intervalMost, budgetMost, nodes, settings, searchRefusal}
 
 pub record Accepts (bytes : List ℕ) (words rule : ℕ) (L : Limits) : Type 0 where
   pub loads : refusal bytes ≡ 0
@@ -24,7 +24,7 @@ pub record Accepts (bytes : List ℕ) (words rule : ℕ) (L : Limits) : Type 0 w
   pub interval-most : L .interval ≤ intervalMost
   pub budget-most : L .budget ≤ budgetMost
 
-pub accepts : (bytes : List ℕ) (words rule : ℕ) (L : Limits) → searchRefusal bytes words rule L ≡ 0 → Accepts bytes words rule L
+pub accepts : (bytes : List ℕ) (words rule : ℕ) (L : Limits) → searchRefusal bytes (nodes words) rule L ≡ 0 → Accepts bytes words rule L
 unfolding searchRefusal
 accepts bytes words rule L e =
     let record-loads = none-refuses _ _ e in
@@ -43,13 +43,17 @@ accepts bytes words rule L e =
       budget-most = budget-most .0;
     }
 
+-- the checks of a pool whose capacity has been counted
+pub of-pool : (bytes : List ℕ) (capacity words rule : ℕ) (L : Limits) (n : ℕ) → n ≡ searchRefusal bytes capacity rule L → capacity ≡ nodes words → n ≡ searchRefusal bytes (nodes words) rule L
+of-pool bytes capacity words rule L n e q = rw (e, q)
+
 -- the checks are the same under each of the rules
-pub same-checks : (bytes : List ℕ) (words rule : ℕ) (L : Limits) → rule ≤ lastRule → searchRefusal bytes words rule L ≡ searchRefusal bytes words 0 L
+pub same-checks : (bytes : List ℕ) (capacity rule : ℕ) (L : Limits) → rule ≤ lastRule → searchRefusal bytes capacity rule L ≡ searchRefusal bytes capacity 0 L
 unfolding searchRefusal
-same-checks bytes words rule L l = rw (le-ltb lastRule rule l)
+same-checks bytes capacity rule L l = rw (le-ltb lastRule rule l)
 
 -- what the search asks for, once every check is passed
-pub to-search : (bytes g w : List ℕ) (rule : ℕ) (L : Limits) → Holds (positionOf bytes) g 0 → searchRefusal bytes (length w) rule L ≡ 0
+pub to-search : (bytes g w : List ℕ) (rule : ℕ) (L : Limits) → Holds (positionOf bytes) g 0 → searchRefusal bytes (nodes (length w)) rule L ≡ 0
     → Searchable g w (record { rule = rule; limit = L .limit; budget = L .budget; interval = L .interval })
 to-search bytes g w rule L holds none =
     let a = accepts bytes (length w) rule L none in

@@ -5,3 +5,4 @@ pub mod SearchAnswers
 pub mod Pools
 pub mod ThirdCondition
 pub mod TwoSearches
+pub mod RefereeAgrees

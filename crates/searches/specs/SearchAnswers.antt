@@ -7,54 +7,54 @@ use Rattle.machine.specs.Machine.{Result}
 use Rattle.plain.specs.Plain.{plainSearch}
 use Rattle.calls.specs.Calls.{answerUnless}
 use Rattle.calls.specs.Refusing.{refused-by}
-use Rattle.searches.specs.Searches.{Limits, settings, searchRefusal, Refused, Answered, searchCall, FullVerdict, fullOf, Turned, Full, fullCall}
+use Rattle.searches.specs.Searches.{Limits, nodes, settings, searchRefusal, Refused, Answered, searchCall, FullVerdict, fullOf, Turned, Full, fullCall}
 use Rattle.searches.specs.Accepting.{same-checks}
 
 module _ (bytes : List ℕ) (words rule : ℕ) (L : Limits) where
-  pub search-refused : (n : ℕ) → n ≡ searchRefusal bytes words rule L → (n ≡ 0 → ⊥) → Refused n ≡ searchCall bytes words rule L
+  pub search-refused : (n : ℕ) → n ≡ searchRefusal bytes (nodes words) rule L → (n ≡ 0 → ⊥) → Refused n ≡ searchCall bytes words rule L
   unfolding searchCall
   search-refused n e z = refused-by Refused _ n _ e z
 
-  pub search-answered : searchRefusal bytes words rule L ≡ 0 → (r : Result) → plainSearch rule (settings words L) bytes ≡ r → searchCall bytes words rule L ≡ Answered r
+  pub search-answered : searchRefusal bytes (nodes words) rule L ≡ 0 → (r : Result) → plainSearch rule (settings words L) bytes ≡ r → searchCall bytes words rule L ≡ Answered r
   unfolding searchCall
   search-answered e r q = rw (e, q)
 
   -- and back: what a refusal and an answer tell
-  pub refused : (n : ℕ) → searchCall bytes words rule L ≡ Refused n → (n ≡ searchRefusal bytes words rule L) × (n ≡ 0 → ⊥)
+  pub refused : (n : ℕ) → searchCall bytes words rule L ≡ Refused n → (n ≡ searchRefusal bytes (nodes words) rule L) × (n ≡ 0 → ⊥)
   unfolding searchCall
-  refused n e = go (searchRefusal bytes words rule L) refl e
+  refused n e = go (searchRefusal bytes (nodes words) rule L) refl e
     where
-      go : (k : ℕ) → searchRefusal bytes words rule L ≡ k → answerUnless k Refused (Answered (plainSearch rule (settings words L) bytes)) ≡ Refused n
-          → (n ≡ searchRefusal bytes words rule L) × (n ≡ 0 → ⊥)
+      go : (k : ℕ) → searchRefusal bytes (nodes words) rule L ≡ k → answerUnless k Refused (Answered (plainSearch rule (settings words L) bytes)) ≡ Refused n
+          → (n ≡ searchRefusal bytes (nodes words) rule L) × (n ≡ 0 → ⊥)
       go zero t h = let z : _≡_ {A = ℕ} 0 1 = cc in absurd (omega arith)
       go (suc k) t h = let i : n ≡ suc k = cc in (i ∙ sym t, λ q. omega (arith, i, q))
 
-  pub answered : (r : Result) → searchCall bytes words rule L ≡ Answered r → (searchRefusal bytes words rule L ≡ 0) × (r ≡ plainSearch rule (settings words L) bytes)
+  pub answered : (r : Result) → searchCall bytes words rule L ≡ Answered r → (searchRefusal bytes (nodes words) rule L ≡ 0) × (r ≡ plainSearch rule (settings words L) bytes)
   unfolding searchCall
-  answered r e = go (searchRefusal bytes words rule L) refl e
+  answered r e = go (searchRefusal bytes (nodes words) rule L) refl e
     where
-      go : (k : ℕ) → searchRefusal bytes words rule L ≡ k → answerUnless k Refused (Answered (plainSearch rule (settings words L) bytes)) ≡ Answered r
-          → (searchRefusal bytes words rule L ≡ 0) × (r ≡ plainSearch rule (settings words L) bytes)
+      go : (k : ℕ) → searchRefusal bytes (nodes words) rule L ≡ k → answerUnless k Refused (Answered (plainSearch rule (settings words L) bytes)) ≡ Answered r
+          → (searchRefusal bytes (nodes words) rule L ≡ 0) × (r ≡ plainSearch rule (settings words L) bytes)
       go zero t h = (t, cc)
       go (suc k) t h = let z : _≡_ {A = ℕ} 0 1 = cc in absurd (omega arith)
 
 -- Full verdict, from the searches under rules 1 and 2
 module _ (bytes : List ℕ) (words : ℕ) (L : Limits) where
-  pub full-with : searchRefusal bytes words 0 L ≡ 0 → (r s : Result) → plainSearch 1 (settings words L) bytes ≡ r → plainSearch 2 (settings words L) bytes ≡ s
+  pub full-with : searchRefusal bytes (nodes words) 0 L ≡ 0 → (r s : Result) → plainSearch 1 (settings words L) bytes ≡ r → plainSearch 2 (settings words L) bytes ≡ s
       → fullCall bytes words L ≡ Full (fullOf (r .verdict) (s .verdict)) r s
   unfolding fullCall
   full-with e r s q p = rw (e, q, p)
 
   pub full-refused : (n : ℕ) → searchCall bytes words 1 L ≡ Refused n → Turned n ≡ fullCall bytes words L
   unfolding fullCall
-  full-refused n e = let h = refused bytes words 1 L n e in refused-by Turned _ n _ (h .0 ∙ same-checks bytes words 1 L (omega arith)) (h .1)
+  full-refused n e = let h = refused bytes words 1 L n e in refused-by Turned _ n _ (h .0 ∙ same-checks bytes (nodes words) 1 L (omega arith)) (h .1)
 
   module _ (r : Result) (e : searchCall bytes words 1 L ≡ Answered r) where
-    none : searchRefusal bytes words 0 L ≡ 0
-    none = sym (same-checks bytes words 1 L (omega arith)) ∙ answered bytes words 1 L r e .0
+    none : searchRefusal bytes (nodes words) 0 L ≡ 0
+    none = sym (same-checks bytes (nodes words) 1 L (omega arith)) ∙ answered bytes words 1 L r e .0
 
     pub full-not-refused : (n : ℕ) → searchCall bytes words 2 L ≡ Refused n → ⊥
-    full-not-refused n f = let h = refused bytes words 2 L n f in h .1 (h .0 ∙ same-checks bytes words 2 L (omega arith) ∙ none)
+    full-not-refused n f = let h = refused bytes words 2 L n f in h .1 (h .0 ∙ same-checks bytes (nodes words) 2 L (omega arith) ∙ none)
 
     pub full-answered : (s : Result) → searchCall bytes words 2 L ≡ Answered s → (v : FullVerdict) → v ≡ fullOf (r .verdict) (s .verdict) → Full v r s ≡ fullCall bytes words L
     full-answered s f v q = ap (λ x. Full x r s) q ∙ sym (full-with none r s (sym (answered bytes words 1 L r e .1)) (sym (answered bytes words 2 L s f .1)))

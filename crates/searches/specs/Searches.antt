@@ -43,13 +43,13 @@ abbrev pub settings : ℕ → Limits → Settings
 settings words L = record { pool = nodes words; limit = L .limit; budget = L .budget; interval = L .interval }
 
 -- The checks of a search, in their order: the record's; no node in the pool, or too many; a rule, an interval or a budget out of its range. The number of the
--- first that refuses, or 0.
-unfoldable pub searchRefusal : (bytes : List ℕ) (words rule : ℕ) → Limits → ℕ
-searchRefusal bytes words rule L =
+-- first that refuses, or 0. The pool comes in as its capacity, in nodes.
+unfoldable pub searchRefusal : (bytes : List ℕ) (capacity rule : ℕ) → Limits → ℕ
+searchRefusal bytes capacity rule L =
     firstRefusal (
     refusal bytes
-    ∷ refuses 8 (ltb (nodes words) poolLeast)
-    ∷ refuses 9 (ltb poolMost (nodes words))
+    ∷ refuses 8 (ltb capacity poolLeast)
+    ∷ refuses 9 (ltb poolMost capacity)
     ∷ refuses 10 (ltb lastRule rule)
     ∷ refuses 10 (ltb (L .interval) intervalLeast)
     ∷ refuses 10 (ltb intervalMost (L .interval))
@@ -63,7 +63,7 @@ pub data Searched : Type 0 where
   Answered : Result → Searched
 
 unfoldable pub searchCall : (bytes : List ℕ) (words rule : ℕ) → Limits → Searched
-searchCall bytes words rule L = answerUnless (searchRefusal bytes words rule L) Refused (Answered (plainSearch rule (settings words L) bytes))
+searchCall bytes words rule L = answerUnless (searchRefusal bytes (nodes words) rule L) Refused (Answered (plainSearch rule (settings words L) bytes))
 
 -- The pool's words afterwards: untouched if it was refused; otherwise those past the capacity are.
 abbrev pub Untouched : List ℕ → List ℕ → Type 0
@@ -95,7 +95,7 @@ abbrev pub bothResults : Result → Result → Judged
 bothResults first second = Full (fullOf (first .verdict) (second .verdict)) first second
 
 unfoldable pub fullCall : (bytes : List ℕ) (words : ℕ) → Limits → Judged
-fullCall bytes words L = answerUnless (searchRefusal bytes words 0 L) Turned (bothResults (plainSearch 1 (settings words L) bytes) (plainSearch 2 (settings words L) bytes))
+fullCall bytes words L = answerUnless (searchRefusal bytes (nodes words) 0 L) Turned (bothResults (plainSearch 1 (settings words L) bytes) (plainSearch 2 (settings words L) bytes))
 
 abbrev pub PoolAfterFull : Judged → List ℕ → List ℕ → Type 0
 PoolAfterFull (Turned n) before after = after ≡ before

@@ -42,14 +42,13 @@ pub enum Outcome {
     Refused(u8),
 }
 
-// All of search's checks, in their order: 0 and the position, or the number of the first that refuses.
-pub fn accept(bytes: &[u8], words: &[u32], rule: u64, l: SearchLimits) -> Loaded
-    ensures { λ r. ⌜ r .code ≡ searchRefusal (now (bytes .entry)) (length (now (words .entry))) rule (limitsOf l) ⌝ }
+// All of search's checks, in their order, of a pool with so many nodes: 0 and the position, or the number of the first that refuses.
+pub fn accept(bytes: &[u8], nodes: usize, rule: u64, l: SearchLimits) -> Loaded
+    ensures { λ r. ⌜ r .code ≡ searchRefusal (now (bytes .entry)) nodes rule (limitsOf l) ⌝ }
     ensures position { λ r. ⌜ (r .code ≡ 0 → Holds (positionOf (now (bytes .entry))) (r .game .words) 0) ⌝ }
 {
     let loaded = record::load(bytes);
     let game = loaded.game;
-    let nodes = node_pool::capacity(words);
     let checks = [
         loaded.code,
         refusals::refuses(8, nodes < LEAST_NODES),
@@ -69,7 +68,8 @@ pub fn accept(bytes: &[u8], words: &[u32], rule: u64, l: SearchLimits) -> Loaded
 pub fn search(bytes: &[u8], words: &mut [u32], rule: u64, l: SearchLimits) -> Outcome
     ensures { λ r. ⌜ (searched r ≡ searchCall (now (bytes .entry)) (length (now (words .entry))) rule (limitsOf l)) × PoolAfter (searched r) (now (words .entry)) (now (words .exit)) ⌝ }
 {
-    let loaded = accept(bytes, words, rule, l);
+    let nodes = node_pool::capacity(words);
+    let loaded = accept(bytes, nodes, rule, l);
     if loaded.code != 0 {
         return Outcome::Refused(loaded.code);
     }

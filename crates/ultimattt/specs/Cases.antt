@@ -15,7 +15,7 @@ use Rattle.plain.specs.Cases.{record21, E, W, D, fields, starred}
 use Rattle.referee.specs.OpenCells.{openCells}
 use Rattle.calls.specs.Calls.{replayOutcome, refereeOutcome, afterMoves, outputRefusal, replayCall, movesCall, refereeRefusal, refereeCall}
 use Rattle.searches.specs.SearchAnswers.{search-answered, full-with}
-use Rattle.searches.specs.Searches.{Limits, limits, settings, searchRefusal, Refused, Answered, searchCall, fullOf, Draw, Full, Turned, fullCall}
+use Rattle.searches.specs.Searches.{Limits, limits, nodes, settings, searchRefusal, Refused, Answered, searchCall, fullOf, Draw, Full, Turned, fullCall}
 
 -- An output of 21 bytes, and one of 81.
 abbrev pub out21 : List ℕ
@@ -35,7 +35,7 @@ judging budget = limits 18446744073709551615 budget 10000
 abbrev pub UnderEach : List ℕ → ℕ → Limits → Result → Type 0
 UnderEach bytes words L r = (searchCall bytes words 0 L ≡ Answered r) × (searchCall bytes words 1 L ≡ Answered r) × (searchCall bytes words 2 L ≡ Answered r)
 
-under-each : (bytes : List ℕ) (words : ℕ) (L : Limits) (r : Result) → searchRefusal bytes words 0 L ≡ 0 → searchRefusal bytes words 1 L ≡ 0 → searchRefusal bytes words 2 L ≡ 0
+under-each : (bytes : List ℕ) (words : ℕ) (L : Limits) (r : Result) → searchRefusal bytes (nodes words) 0 L ≡ 0 → searchRefusal bytes (nodes words) 1 L ≡ 0 → searchRefusal bytes (nodes words) 2 L ≡ 0
     → plain-cases.UnderEach (settings words L) bytes r → UnderEach bytes words L r
 under-each bytes words L r e0 e1 e2 h = (search-answered bytes words 0 L e0 r (h .0), search-answered bytes words 1 L e1 r (h .1), search-answered bytes words 2 L e2 r (h .2))
 

@@ -1,2 +1,4 @@
 pub mod Cases
 pub mod Exports
+pub mod TwoAnswers
+pub mod Exported

@@ -9,9 +9,6 @@ use Rattle.searches.proofs.accept.Tie as tie
 load-requires : tie.Need-load-requires
 load-requires c κs = search needs
 
-capacity-requires : tie.Need-capacity-requires
-capacity-requires c κs = search needs
-
 refuses-requires : tie.Need-refuses-requires
 refuses-requires c κs = search needs
 
@@ -45,8 +42,7 @@ returns c =
     let rule-most = interval-least .before .before in
     let pool-most = rule-most .before in
     let pool-least = pool-most .before in
-    let pool = pool-least .before in
-    let loaded = pool .before .before in (
+    let loaded = pool-least .before .before in (
       rw (
         c .first .ensures,
         loaded .load .ensures .0,
@@ -56,7 +52,6 @@ returns c =
         interval-least .refuses4 .ensures,
         interval-most .refuses5 .ensures,
         budget-most .refuses6 .ensures,
-        pool .capacity .ensures,
       ),
       λ z. loaded .load .ensures .1 (none-refuses _ _ (sym (c .first .ensures) ∙ z) .0),
     )
@@ -66,7 +61,6 @@ accept-spec =
     tie.close
     (tie.spec
     load-requires
-    capacity-requires
     refuses-requires
     refuses-requires-2
     refuses-requires-3
