@@ -6,6 +6,7 @@ ghost use lib.ListN.{length, take, drop, replicate};
 ghost use Rattle.prove.specs.Numbers.{verdict};
 ghost use Rattle.pn.specs.Going.{resultOf};
 ghost use Rattle.searches.specs.Searches.{searchCall};
+ghost use Rattle.searches.specs.SearchAnswers.{searched};
 ghost use Rattle.printed.specs.Printed.{decimal, byte, field, fields, verdictWord, fieldsLine, refusedLine, answerLine, judgeWords, judgeLimits, judgeLine};
 ghost use Rattle.printed.specs.Puts.{Put};
 use pn::SearchResult;
@@ -130,6 +131,27 @@ fn put_refusal(out: &mut [u8], n: u8) -> usize
     put_byte(out, number, b'\n')
 }
 
+// A search's answer: its fields, or the refusal.
+fn put_outcome(out: &mut [u8], outcome: Outcome) -> usize
+    requires { ⌜ 176 ≤ length (now out) ⌝ }
+    ensures { λ r. ⌜ Put (answerLine (searched outcome)) 0 (now (out .entry)) (now (out .exit)) r ⌝ }
+{
+    match outcome {
+        Outcome::Answered(r) => put_result(out, r),
+        Outcome::Refused(n) => put_refusal(out, n),
+    }
+}
+
+// The line of a search's answer. The rest of the array is zeros.
+pub fn outcome_line(outcome: Outcome) -> Line
+    ensures { λ r. ⌜ (take (r .length) (r .bytes) ≡ answerLine (searched outcome)) × (drop (r .length) (r .bytes) ≡ replicate (176 - r .length) 0) ⌝ }
+    ensures fits { λ r. ⌜ (r .length ≤ length (r .bytes)) × (r .length ≡ length (take (r .length) (r .bytes))) ⌝ }
+{
+    let mut bytes = [0u8; 176];
+    let length = put_outcome(&mut bytes, outcome);
+    Line { bytes, length }
+}
+
 // Searches a record's position with judge's pool and limits.
 fn put_answer(out: &mut [u8], bytes: &[u8], rule: u8) -> usize
     requires { ⌜ 176 ≤ length (now out) ⌝ }
@@ -142,10 +164,7 @@ fn put_answer(out: &mut [u8], bytes: &[u8], rule: u8) -> usize
         interval: INTERVAL,
     };
     let outcome = searches::search(bytes, &mut pool, rule as u64, limits);
-    match outcome {
-        Outcome::Answered(r) => put_result(out, r),
-        Outcome::Refused(n) => put_refusal(out, n),
-    }
+    put_outcome(out, outcome)
 }
 
 fn put_line(out: &mut [u8], input: &[u8]) -> usize
