@@ -4,7 +4,7 @@ use mathlib.Core.List.{List}
 use Prim.Native.Nat.{ℕ}
 use lib.ListN.{length, take, getD}
 use borrow.Author.Tests.{eq-eqb, ne-eqb}
-use Rattle.pn.specs.Going.{resultOf}
+use Rattle.pn.specs.Results.{resultOf}
 use Rattle.pn.specs.declared.SearchResult.{SearchResult}
 use Rattle.searches.specs.Searches.{Searched, searchCall}
 use Rattle.searches.specs.Answers.{searched}

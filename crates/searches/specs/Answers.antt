@@ -1,5 +1,5 @@
 -- What each case of the answers of search and full verdict says, and the numbers of SearchLimits. Rests on Searches and on the nine fields as the machine has them.
-use Rattle.pn.specs.Going.{resultOf}
+use Rattle.pn.specs.Results.{resultOf}
 use Rattle.searches.specs.Searches as calls
 use Rattle.searches.specs.Searches.{Limits, Searched, Judged}
 use Rattle.searches.specs.declared.SearchLimits.{SearchLimits}

@@ -4,7 +4,7 @@ ghost use mathlib.Core.Path.{_≡_};
 ghost use Prim.Native.Nat.{ℕ};
 ghost use lib.ListN.{length};
 ghost use Rattle.game.specs.Numbers.{errorNumber};
-ghost use Rattle.pn.specs.Going.{resultOf};
+ghost use Rattle.pn.specs.Results.{resultOf};
 ghost use Rattle.calls.specs.Calls.{replayOutcome, movesOutcome, refereeOutcome, replayCall, movesCall, refereeCall};
 ghost use Rattle.searches.specs.Searches.{limits, searchCall, PoolAfter, fullCall, PoolAfterFull};
 ghost use Rattle.searches.specs.Answers.{fullVerdict};
