@@ -1,11 +1,11 @@
--- A search of a position between two rounds, as its code keeps it, and its result. Rests on prover's Stands, Courses, Ticks and Root.
+-- A search of a position between two rounds, as its code keeps it, and its result. Rests on prover's Stands, Courses, Ticks, Root and Results.
 use mathlib.Core.Path.{_≡_, refl, ap, sym, _∙_}
 use mathlib.Core.Bool.{true, false, true≢false, cond, _||_}
 use mathlib.Core.List.{List}
 use Prim.Native.Nat.{ℕ, _+_, _*_, _≤_, _<_}
 use native.Mathlib.Omega.{arith}
 use lib.Dec.{eqb}
-use lib.ListN.{getD}
+use lib.ListN.{length, getD}
 use Rattle.rules.specs.Rules.{Position, count}
 use Rattle.machine.specs.Tree.{solved, proofOf, disproofOf}
 use Rattle.machine.specs.Machine as machine
@@ -31,13 +31,9 @@ use Rattle.pn.specs.declared.SearchResult.{SearchResult}
 abbrev pub policyFor : (s : Settings) (p : Position) → machine.Policy (gameOf (s .rule) p)
 policyFor s p = policyOf (s .rule) (p .side)
 
--- nine fields that are alike
-abbrev fields : machine.Verdict → (proof disproof allocated freed proved disproved expanded cause : ℕ) → machine.Result
-fields v p d a f o n e c = record { verdict = v; proof = p; disproof = d; allocated = a; freed = f; proved = o; disproved = n; expanded = e; cause = c }
-
-fields-alike : (v v′ : machine.Verdict) (p p′ d d′ a a′ f f′ o o′ n n′ e e′ c c′ : ℕ)
-    → v ≡ v′ → p ≡ p′ → d ≡ d′ → a ≡ a′ → f ≡ f′ → o ≡ o′ → n ≡ n′ → e ≡ e′ → c ≡ c′ → fields v p d a f o n e c ≡ fields v′ p′ d′ a′ f′ o′ n′ e′ c′
-fields-alike v v′ p p′ d d′ a a′ f f′ o o′ n n′ e e′ c c′ ev ep ed ea ef eo en ee ec = rw (ev, ep, ed, ea, ef, eo, en, ee, ec)
+-- words of the same length make a pool of the same capacity
+pub settings-long : (w v : List ℕ) (s : Settings) → length v ≡ length w → machineSettings v s ≡ machineSettings w s
+settings-long w v s e = rw e
 
 -- the ranges that keep counts within their words
 pub record Ranges (w : List ℕ) (s : Settings) : Type 0 where
@@ -125,11 +121,6 @@ module _ (p : Position) (s : Settings) (w path ps : List ℕ) (x : Running) (g :
       → resultOf r ≡ searchOf (s .rule) (machineSettings w s) p
   unfolding searchOf machine.search machine.result
   going-result e r ep ed ev ea ef eo en ee ec =
-      let P = proof-is ∙ sym ep in
-      let D = disproof-is ∙ sym ed in
-      let same : (eqb (word w (getD path 0 0) PHI) 0 || eqb (word w (getD path 0 0) DELTA) 0) ≡ (eqb (r .proof) 0 || eqb (r .disproof) 0) = rw (ep, ed) in
-      let cause = ap (λ b. cond b 0 (x .cause)) (solved-is ∙ same) ∙ sym ec in
-      sym (g .ended e
-      ∙ fields-alike _ _ _ _ _ _ _ _ _ _ _ _ _ _ _ _ _ _ (ap (λ n. machine.verdictOf n (disproofOf (gameOf (s .rule) p) (machine.root (g .at)))) P ∙ ap (machine.verdictOf (r .proof)) D ∙ sym ev) P D
-      (sym (g .stands .tree .allocated-is) ∙ sym ea) (sym (g .stands .tree .freed-is) ∙ sym ef) (sym (g .stands .proved-is) ∙ sym eo)
-      (sym (g .stands .disproved-is) ∙ sym en) (sym (g .stands .expanded-is) ∙ sym ee) cause)
+      let st = g .stands in
+      rw (ev, ec, ep, ed, ea, ef, eo, en, ee, st .tree .allocated-is, st .tree .freed-is, st .proved-is, st .disproved-is, st .expanded-is, ← solved-is, ← proof-is, ← disproof-is)
+      (sym (g .ended e))

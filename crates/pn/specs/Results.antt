@@ -7,12 +7,9 @@ use Rattle.words.specs.Words.{capacity}
 use Rattle.pn.specs.declared.Settings.{Settings}
 use Rattle.pn.specs.declared.SearchResult.{SearchResult}
 
--- the machine's settings with a pool of n nodes, and with a pool of these words
-abbrev pub withPool : ℕ → Settings → machine.Settings
-withPool n s = record { pool = n; limit = s .limit; budget = s .budget; interval = s .interval }
-
+-- the machine's settings, with the capacity in nodes of a pool of these words
 abbrev pub machineSettings : List ℕ → Settings → machine.Settings
-machineSettings w s = withPool (capacity w) s
+machineSettings w s = record { pool = capacity w; limit = s .limit; budget = s .budget; interval = s .interval }
 
 -- the nine fields of a SearchResult as the machine has them
 abbrev pub resultOf : SearchResult → machine.Result

@@ -2,7 +2,7 @@
 use mathlib.Core.Path.{_≡_, refl, ap, sym, _∙_, subst}
 use mathlib.Core.Bool.{Bool, true, false, and-false, true≢false}
 use mathlib.Core.List.{List, [], _∷_}
-use Prim.Native.Nat.{ℕ, suc, _+_, _*_, _-_, _/_, _%_, _≤_, _<_}
+use Prim.Native.Nat.{ℕ, suc, _+_, _*_, _-_, _%_, _≤_, _<_}
 use native.Mathlib.Omega.{arith}
 use native.Mathlib.Decide.{ℕ-discrete, decLt}
 use borrow.Author.Tests.{lt-ltb, le-ltb}
@@ -27,8 +27,8 @@ use Rattle.prover.specs.declared.Prover.{Prover}
 use Rattle.prover.specs.Stands.{Stands, Searching}
 use Rattle.pn.specs.Ticks.{Ticks, tick-some, tick-due, tick-again, tick-not-due, tick-next}
 use Rattle.pn.specs.Courses.{Leads, Ends, Spent, ends-solved, ends-spent, ends-short, ends-over, leads-on}
-use Rattle.pn.specs.Results.{withPool, machineSettings}
-use Rattle.pn.specs.Going.{Going, Ranges, policyFor}
+use Rattle.pn.specs.Results.{machineSettings}
+use Rattle.pn.specs.Going.{Going, Ranges, policyFor, settings-long}
 use Rattle.pn.specs.Ticked.{Ticked}
 use Rattle.pn.specs.declared.Settings.{Settings}
 use Rattle.pn.specs.declared.Running.{Running}
@@ -92,11 +92,11 @@ module _ (p : Position) (s : Settings) (w : List ℕ) where
   -- a state that ends the search of p, or leads on, in words of the same length
   module _ (w′ path′ ps′ : List ℕ) (long : length w′ ≡ length w) (few : count 0 (p .cells) ≤ 81) (y : Running) (t : machine.State Position)
       (stands : Stands (s .rule) (p .side) w′ path′ ps′ (y .prover) t) (ok : StateOk G p (capacity w) t) (most : t .counts .allocated ≤ 1 + 81 * t .counts .expanded) where
-    same : capacity w′ ≡ capacity w
-    same = ap (λ n. n / 5) long
+    same : S ≡ machineSettings w′ s
+    same = sym (settings-long w w′ s long)
 
     ok′ : StateOk G p (capacity w′) t
-    ok′ = subst (λ n. StateOk G p n t) (sym same) ok
+    ok′ = subst (λ (T : machine.Settings). StateOk G p (T .pool) t) same ok
 
     pub goes-no-further : y .stop ≡ true → Ends G P S p t (y .cause)
         → (y .cause ≡ 1 → Spent G P S p t × Ticks (s .interval) (t .counts .expanded) (y .tick))
@@ -108,8 +108,8 @@ module _ (p : Position) (s : Settings) (w : List ℕ) where
       few = few;
       allocated-most = most;
       onward = λ q. absurd (true≢false (sym e ∙ q));
-      ended = λ q. subst (λ n. Ends G P (withPool n s) p t (y .cause)) (sym same) ends;
-      spent = λ q c. (subst (λ n. Spent G P (withPool n s) p t) (sym same) (spent c .0), spent c .1);
+      ended = λ q. subst (λ (T : machine.Settings). Ends G P T p t (y .cause)) same ends;
+      spent = λ q c. (subst (λ (T : machine.Settings). Spent G P T p t) same (spent c .0), spent c .1);
     }
 
     pub goes-on : y .stop ≡ false → Leads G P S p t
@@ -120,7 +120,7 @@ module _ (p : Position) (s : Settings) (w : List ℕ) where
       ok = ok′;
       few = few;
       allocated-most = most;
-      onward = λ q. (subst (λ n. Leads G P (withPool n s) p t) (sym same) leads, ticks);
+      onward = λ q. (subst (λ (T : machine.Settings). Leads G P T p t) same leads, ticks);
       ended = λ q. absurd (true≢false (sym q ∙ e));
       spent = λ q. absurd (true≢false (sym q ∙ e));
     }

@@ -2,7 +2,7 @@
 use mathlib.Core.Path.{_≡_, refl, ap, sym, _∙_, subst}
 use mathlib.Core.Bool.{false, true≢false}
 use mathlib.Core.List.{List}
-use Prim.Native.Nat.{ℕ, _-_, _/_, _<_}
+use Prim.Native.Nat.{ℕ, _-_, _<_}
 use native.Mathlib.Omega.{arith}
 use lib.ListN.{length}
 use Rattle.rules.specs.Rules.{Position}
@@ -15,8 +15,8 @@ use Rattle.words.specs.Words.{capacity, Beyond, beyond-trans}
 use Rattle.words.specs.Freeing.{plies}
 use Rattle.prover.specs.declared.Prover.{Prover}
 use Rattle.pn.specs.Ticks.{tick-start}
-use Rattle.pn.specs.Results.{withPool, machineSettings, resultOf}
-use Rattle.pn.specs.Going.{Going, Ranges, policyFor}
+use Rattle.pn.specs.Results.{machineSettings, resultOf}
+use Rattle.pn.specs.Going.{Going, Ranges, policyFor, settings-long}
 use Rattle.pn.specs.Beginning.{Startable, Begun}
 use Rattle.pn.specs.Stepping.{Steppable, Stepped, left}
 use Rattle.pn.specs.declared.Settings.{Settings}
@@ -119,6 +119,6 @@ search-done p s w v u path₀ ps₀ path ps y x root r a ranges er b long each r
     let k = to-loop p s w v path₀ ps₀ y root a ranges er b in
     let here : Looping p s v u path ps x = subst (λ q. Looping q s v u path ps x) (k .1) (each (k .0)) in
     record {
-      result-is = result p ps (here .going) ∙ ap (λ n. searchOf (s .rule) (withPool (n / 5) s) p) (long ∙ b .long);
+      result-is = result p ps (here .going) ∙ ap (λ (T : machine.Settings). searchOf (s .rule) T p) (settings-long w u s (long ∙ b .long));
       past = beyond-trans w v u (b .long) (b .past) (here .past);
     }
