@@ -45,7 +45,7 @@ uttt: library
 answers:
 	$(BUILD) -p oracle
 
-# The original on the cases of document 01 and on chosen small searches.
+# The original on the manual's positions to try and on chosen small searches.
 oracle-test:
 	$(CARGO) test --manifest-path harness/Cargo.toml --offline --locked -j $(JOBS) -p calls -p oracle
 
@@ -69,7 +69,7 @@ bench: library
 bindings-test: library
 	$(CARGO) test --manifest-path bindings/rust/Cargo.toml --offline --locked -j $(JOBS)
 
-# The example programs, built and run: without a record (W of document 01), on D, on E, on D with target 0. Both have to say what is stored.
+# The example programs, built and run: without a record (W of the manual), on D, on E, on D with target 0. Both have to say what is stored.
 EXAMPLES = target/examples/adjudicate examples/rust/target/release/adjudicate
 EXAMPLE_RECORDS = \
 	7AB400AC0054001500054000A8002A000A80054000 \

@@ -1,4 +1,4 @@
-//! Document 01's positions to try.
+//! The manual's positions to try (MANUAL, Positions to try).
 
 mod common;
 

@@ -1,4 +1,4 @@
-//! Each refusal of document 01's table, with its number, its index and its words.
+//! Each refusal of the table (MANUAL, Turned back), with its number, its index and its words.
 
 mod common;
 

@@ -1,4 +1,4 @@
--- The numbers of the code's enums, as document 01 has them. Rests on nothing.
+-- The numbers of the code's enums (MANUAL, The game; Record; Turned back). Rests on nothing.
 use Prim.Native.Nat.{ℕ}
 use mathlib.Core.Path.{_≡_, sym, ap, _∙_}
 use native.Mathlib.Omega.{arith}

@@ -16,7 +16,7 @@ unfoldable pub backward : (G : Game) {A : Type 0} → (G .Pos → List A → A) 
 backward G f zero p = f p []
 backward G f (suc k) p = f p (map (λ m. backward G f k (G .play p m)) (G .moves p))
 
--- Document 01, "Draw rules and value": a finished position has its own value; otherwise the root's side needs one move to true, the other side one to false
+-- MANUAL, Draw rules and value: a finished position has its own value; otherwise the root's side needs one move to true, the other side one to false
 unfoldable pub valueFrom : (G : Game) → G .Pos → List Bool → Bool
 valueFrom G p [] = G .final p
 valueFrom G p (v ∷ vs) = cond (G .mine p) (foldr _||_ false (v ∷ vs)) (foldr _&&_ true (v ∷ vs))

@@ -1,4 +1,4 @@
--- The plain machine, as document 01 has it under "Search": its state, its steps under their numbers, the loop and the result. Rests on Game and Tree.
+-- The plain machine (MANUAL, Search): its state, its steps under their numbers, the loop and the result. Rests on Game and Tree.
 use mathlib.Core.List.{List, [], _∷_}
 use mathlib.Core.Bool.{Bool, true, false, _&&_, cond}
 use Prim.Native.Nat.{ℕ, zero, suc, _+_, _-_, _%_, min}
@@ -52,7 +52,7 @@ hasDelta x n = eqb (n .delta) x
 abbrev pub firstWith : {Pos : Type 0} → ℕ → Children Pos → ℕ
 firstWith x ks = firstThat (hasDelta x) ks
 
--- Document 01's choice: the first listed child whose delta equals the node's phi; as many nodes as the leaf has legal moves
+-- The choice of MANUAL, Search: the first listed child whose delta equals the node's phi; as many nodes as the leaf has legal moves
 unfoldable pub standard : (G : Game) → Policy G
 standard G = record { select = λ n ks. firstWith (n .phi) ks; need = λ p. length (G .moves p) }
 

@@ -1,4 +1,4 @@
--- Document 01's choices are sane, so that all of Third and Reached holds of the plain machine; and of a search that starts at a finished position. Rests on Third.
+-- The choices of steps 2 and 3 (MANUAL, Search) are sane, so that all of Third and Reached holds of the plain machine; and of a search that starts at a finished position. Rests on Third.
 use mathlib.Core.Path.{_≡_, refl, ap}
 use mathlib.Core.List.{List, [], _∷_, map, foldr}
 use mathlib.Core.Bool.{Bool, true, false, not, _||_, Bool·beq}

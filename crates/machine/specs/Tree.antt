@@ -1,4 +1,4 @@
--- The nodes of the plain machine's tree, with their numbers as document 01 has them under "Bounds", and lists of children. Rests on Game.
+-- The nodes of the plain machine's tree, with their numbers (MANUAL, Bounds), and lists of children. Rests on Game.
 use mathlib.Core.List.{List, [], _∷_}
 use mathlib.Core.Bool.{Bool, false, not, _||_, cond, Bool·beq}
 use Prim.Native.Nat.{ℕ, suc, _+_, min}

@@ -1,5 +1,5 @@
 -- Ultimate Tic Tac Toe as a game that the plain machine searches, and what the third condition names of a record: its value, N and the
--- machine's result. Document 01: 'Draw rules and value', and the end of 'Search'. Rests on crates rules and machine.
+-- machine's result. MANUAL, Draw rules and value; The third condition. Rests on crates rules and machine.
 use mathlib.Core.List.{List}
 use mathlib.Core.Bool.{Bool}
 use Prim.Native.Nat.{ℕ}

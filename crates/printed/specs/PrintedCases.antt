@@ -1,4 +1,4 @@
--- Document 01's printed line and others, computed from the definitions. Rests on Printed and Answers, and on plain's cases
+-- The line of W (MANUAL, Printed line) and others, computed from the definitions. Rests on Printed and Answers, and on plain's cases
 -- for the records W and D and for D's results.
 use mathlib.Core.Path.{_≡_, refl, ap, _∙_}
 use mathlib.Core.List.{List, [], _∷_, _++_}

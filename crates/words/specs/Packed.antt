@@ -1,4 +1,4 @@
--- The packed word of a node ("Pool"), and what of it is read back. Rests on the plain machine's nodes and the numbers of a verdict.
+-- The packed word of a node (MANUAL, Pool), and what of it is read back. Rests on the plain machine's nodes and the numbers of a verdict.
 use mathlib.Core.Path.{_≡_, refl}
 use mathlib.Core.List.{List, [], _∷_}
 use mathlib.Core.Bool.{Bool, true, false, not, cond}

@@ -1,5 +1,5 @@
 //! What the oracle, the tool `uttt` and the comparison have in common: records, calls and answers
-//! as lines of text, and document 01's table of refusals as plain code. Nothing here comes from
+//! as lines of text, and the table of refusals (MANUAL, Turned back) as plain code. Nothing here comes from
 //! the original, and nothing here calls the proved library.
 
 pub mod hex;

@@ -64,7 +64,7 @@ impl Call {
     }
 }
 
-/// The result of a search, in the order in which document 01 prints it.
+/// The result of a search, in the order in which it is printed (MANUAL, Printed line).
 #[derive(Clone, Copy, Debug, PartialEq, Eq)]
 pub struct Fields {
     pub verdict: Verdict,

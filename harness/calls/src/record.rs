@@ -1,4 +1,4 @@
-//! The record of 21 bytes as document 01 gives it, read and written bit by bit. Reading takes any
+//! The record of 21 bytes (MANUAL, Record), read and written bit by bit. Reading takes any
 //! 21 bytes; what is refused is decided in `table`.
 
 /// Bytes of a record.

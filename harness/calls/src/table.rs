@@ -1,4 +1,4 @@
-//! Document 01's table of refusals, checks 1 to 10 and 16, as plain code of our own. The original has no
+//! The table of refusals (MANUAL, Turned back), checks 1 to 10 and 16, as plain code of our own. The original has no
 //! such checks, so these are not its answers: they decide what is handed to it, and they are what a
 //! refusal of the proved library is compared with. Refusals 11 to 15 are the original's own errors.
 //!

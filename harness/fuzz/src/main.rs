@@ -1,6 +1,6 @@
 //! The exports of the proved library on random and damaged bytes. Every buffer stands between pages that can't
 //! be touched, once with its end and once with its start at one; what is lent to be read can't be written; pools
-//! and outputs hold other words each time. Every answer must be one that document 01 allows for the call, and
+//! and outputs hold other words each time. Every answer must be one that docs/MANUAL.md allows for the call, and
 //! the same each time. The first violation is printed with its call, as a line that `uttt` reads, and fails.
 //!
 //! ```text

@@ -66,7 +66,7 @@ pub const PATCHES: &[Patch] = &[
             budget: u64::MAX,
             interval: 10000,",
     ),
-    // Steps 1 and 3 of document 01, before and after step 2.
+    // Steps 1 and 3 (MANUAL, Search), before and after step 2.
     patch(
         "step 1",
         PN,

@@ -1,5 +1,5 @@
-//! The calls of document 01, answered by the original: replay by `make_move`, legal moves by
-//! `all_moves` (never on a finished position, where document 01 says there are none), search by
+//! The calls (MANUAL, Calls), answered by the original: replay by `make_move`, legal moves by
+//! `all_moves` (never on a finished position, where there are none: MANUAL, The game), search by
 //! `Prover::prove`. Refusals 1 to 10 and 16 come from `calls::table`. The original has no full verdict
 //! and no referee: the one is two of its searches and a name of our own (`full`), the other our own
 //! exhaustive value over its moves (`value`).
@@ -64,7 +64,7 @@ pub fn replay(record: &[u8; LENGTH], moves: &[u8]) -> Result<[u8; LENGTH], (u32,
     Ok(load::record(&game))
 }
 
-/// The error's number in document 01's table.
+/// The error's number (MANUAL, Turned back).
 pub fn number(error: MoveError) -> u32 {
     match error {
         MoveError::OutOfBounds => 11,
@@ -111,7 +111,7 @@ pub fn search(record: &[u8; LENGTH], rule: u64, pool: u64, limit: u64, budget: u
     }
 }
 
-/// The full verdict by those under rule 1 and rule 2, as document 01 has it, in its order.
+/// The full verdict by those under rule 1 and rule 2, as in MANUAL, Draw rules and value, in its order.
 pub fn full(first: Verdict, second: Verdict) -> FullVerdict {
     match (first, second) {
         (Verdict::True, _) => FullVerdict::Win,

@@ -1,5 +1,5 @@
 //! The oracle: the original search, built from its own sources with the patches of build/patches.rs,
-//! and the calls of document 01 answered by it. Where the original has no counterpart `answer` says
+//! and the calls (MANUAL, Calls) answered by it. Where the original has no counterpart `answer` says
 //! what stands in for it.
 
 /// Modules of the original, as patched by build.rs.

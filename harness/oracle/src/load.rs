@@ -1,5 +1,5 @@
 //! Records to positions of the original and back. Any accepted record loads, also one that no game
-//! reaches: board states are worked out from the cells, as document 01 says, and the game's state by
+//! reaches: board states are worked out from the cells, as MANUAL, Record says, and the game's state by
 //! the original's own `recalc_winner`.
 
 use crate::game::{CellState, Game, GameState, LocalBoard, Player, Unpacked};

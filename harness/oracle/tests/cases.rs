@@ -1,4 +1,4 @@
-//! The oracle gives the answers of cases.txt: document 01's, and the small searches.
+//! The oracle gives the answers of cases.txt: the manual's (MANUAL, Positions to try), and the small searches.
 
 use calls::line;
 
