@@ -9,7 +9,8 @@ use lib.ListN.{length, getD, drop}
 use lib.Seq.{drop-cons, drop-length}
 use Rattle.rules.specs.Rules.{Position, moveError, play, replay}
 use Rattle.rules.specs.Rules.Replayed.{Reached, BadMove}
-use Rattle.game.specs.Numbers.{errorNumber, resultNumber, err-number}
+use Rattle.game.specs.Numbers.{errorNumber, resultNumber}
+use Rattle.game.specs.Errors.{err-number}
 use Rattle.game.specs.declared.MoveResult.{MoveResult}
 use Rattle.game.specs.declared.MoveResult.the-variants.{Ok, Err}
 use Rattle.game.specs.declared.MoveError.{MoveError}

@@ -1,7 +1,5 @@
 -- The numbers of the code's enums (MANUAL, The game; Record; Turned back). Rests on nothing.
 use Prim.Native.Nat.{ℕ}
-use mathlib.Core.Path.{_≡_, sym, ap, _∙_}
-use native.Mathlib.Omega.{arith}
 use Rattle.game.specs.declared.Player.{Player}
 use Rattle.game.specs.declared.Player.the-variants.{X, O}
 use Rattle.game.specs.declared.CellState.{CellState}
@@ -42,14 +40,3 @@ errorNumber NotEmpty = 15
 abbrev pub resultNumber : MoveResult → ℕ
 resultNumber Ok = 0
 resultNumber (Err e) = errorNumber e
-
--- an error's number is not 0
-error-number : (e : MoveError) → errorNumber e ≡ 0 → ⊥
-error-number OutOfBounds q = omega arith
-error-number GameOver q = omega arith
-error-number WonBoard q = omega arith
-error-number WrongBoard q = omega arith
-error-number NotEmpty q = omega arith
-
-pub err-number : (r : MoveResult) (e : MoveError) → r ≡ Err e → resultNumber r ≡ 0 → ⊥
-err-number r e q z = error-number e (sym (ap resultNumber q) ∙ z)

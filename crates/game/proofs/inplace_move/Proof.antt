@@ -1,6 +1,7 @@
 -- `game::inplace_move` meets its contract: an error is answered before anything is stored. Assumes nothing.
 use mathlib.Core.Path.{sym, ap, refl, _∙_}
-use Rattle.game.specs.Numbers.{resultNumber, err-number}
+use Rattle.game.specs.Numbers.{resultNumber}
+use Rattle.game.specs.Errors.{err-number}
 use borrow.Author.Needs.{needs}
 use Rattle.game.proofs.inplace_move.Statement.{statement}
 use Rattle.game.proofs.inplace_move.Tie as tie

@@ -3,7 +3,8 @@ use mathlib.Core.Path.{sym, ap, _∙_}
 use Prim.Native.Nat.{ℕ}
 use lib.Dec.{eqb}
 use borrow.Author.Tests.{ne-eqb}
-use Rattle.game.specs.Numbers.{resultNumber, err-number}
+use Rattle.game.specs.Numbers.{resultNumber}
+use Rattle.game.specs.Errors.{err-number}
 use Rattle.game.specs.Cursor.{playable-is}
 use borrow.Author.Needs.{needs}
 use Rattle.game.proofs.cursor.is_playable.Statement.{statement}
