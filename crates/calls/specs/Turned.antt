@@ -13,7 +13,8 @@ use Rattle.rules.specs.Refusals.{refuses, firstRefusal}
 use Rattle.rules.specs.RefusalLaws.{none-refuses, first-refuses, rest-refuses}
 use Rattle.plain.specs.Plain.{recordValue}
 use Rattle.referee.specs.OpenCells.{openCells}
-use Rattle.calls.specs.Calls.{lastRule, answerUnless, RefereeOutcome, replayOutcome, movesOutcome, refereeOutcome, afterMoves, listed, outputRefusal, refereeRefusal, replayCall, movesCall, refereeCall}
+use Rattle.calls.specs.Calls.{lastRule, answerUnless, outputRefusal, replayOutcome, afterMoves, replayCall, movesOutcome, listed, movesCall}
+use Rattle.calls.specs.Calls.{RefereeOutcome, refereeOutcome, refereeRefusal, refereeCall}
 use Rattle.calls.specs.Refusing.{passes-test, refused-by, passed-all}
 
 -- what passing checks 1 to 7 tells

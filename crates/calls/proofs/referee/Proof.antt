@@ -33,10 +33,14 @@ first-requires c κs = search needs
 
 returns-2 : tie.Need-returns-2
 returns-2 c =
-    let loaded = c .before .before .before .before .before .before .before .before .before .before .before .load in
-    let passed = c .before .before .before .before .before .before .before .before .before .if1 .left in
-    let few = c .before .before .before .before .open-cells .ensures _ (loaded .ensures .1 passed) in
-    let late = referee-late _ _ (sym (loaded .ensures .0) ∙ passed) _ _ _ _ (c .before .before .before .before .before .before .refuses .ensures) few (c .before .before .before .refuses2 .ensures) (c .before .first .ensures) in
+    let first = c .before in
+    let few = first .before .before in
+    let counted = few .before in
+    let rule-most = counted .before .before in
+    let passed = rule-most .before .before .before in
+    let loaded = passed .before .before .load in
+    let cells = counted .open-cells .ensures _ (loaded .ensures .1 (passed .if1 .left)) in
+    let late = referee-late _ _ (sym (loaded .ensures .0) ∙ passed .if1 .left) _ _ _ _ (rule-most .refuses .ensures) cells (few .refuses2 .ensures) (first .first .ensures) in
     referee-refused _ _ _ late (c .if2 .taken)
 
 line-table-requires : tie.Need-line-table-requires
@@ -50,13 +54,17 @@ value-requires c κs =
 
 returns-3 : tie.Need-returns-3
 returns-3 c =
-    let loaded = c .before .before .before .before .before .before .before .before .before .before .before .before .before .before .load in
-    let passed = c .before .before .before .before .before .before .before .before .before .before .before .before .if1 .left in
-    let none = sym (loaded .ensures .0) ∙ passed in
-    let holds = loaded .ensures .1 passed in
-    let few = c .before .before .before .before .before .before .before .open-cells .ensures _ holds in
-    let late = referee-late _ _ none _ _ _ _ (c .before .before .before .before .before .before .before .before .before .refuses .ensures) few (c .before .before .before .before .before .before .refuses2 .ensures) (c .before .before .before .before .first .ensures) in
-    referee-answered _ _ (sym late ∙ c .before .before .before .if2 .left) _ (c .value .ensures _ holds (loads-accepted _ (loads _ none)))
+    let left = c .before .before .before in
+    let first = left .before in
+    let few = first .before .before in
+    let counted = few .before in
+    let rule-most = counted .before .before in
+    let passed = rule-most .before .before .before in
+    let loaded = passed .before .before .load in
+    let holds = loaded .ensures .1 (passed .if1 .left) in
+    let none = sym (loaded .ensures .0) ∙ passed .if1 .left in
+    let late = referee-late _ _ none _ _ _ _ (rule-most .refuses .ensures) (counted .open-cells .ensures _ holds) (few .refuses2 .ensures) (first .first .ensures) in
+    referee-answered _ _ (sym late ∙ left .if2 .left) _ (c .value .ensures _ holds (loads-accepted _ (loads _ none)))
 
 pub referee-spec : {M : Type 1} → statement M
 referee-spec =

@@ -19,9 +19,7 @@ same-length : tie.Need-same-length
 same-length c = search needs
 
 returns : tie.Need-returns
-returns c =
-    let accepted = c .before .before .accept in
-    (search-refused _ _ _ _ _ (of-pool _ _ _ _ _ _ (accepted .ensures .0) (c .before .before .before .capacity .ensures)) (c .if1 .taken), refl)
+returns c = (search-refused _ _ _ _ _ (search (of-pool)) (c .if1 .taken), refl)
 
 search-requires : tie.Need-search-requires
 search-requires c κs =
