@@ -9,17 +9,33 @@ use borrow.Author.Needs.{needs}
 use Rattle.pn.proofs.round.Statement.{statement}
 use Rattle.pn.proofs.round.Tie as tie
 
+-- From each step back to the one before it, and to the call
+abbrev call : tie.After-descend → tie.Start
+call d = d .before .before .before .before .before
+
+abbrev down : tie.After-is-short → tie.After-descend
+down i = i .before .before .before
+
+abbrev on : tie.After-expand → tie.Else1
+on x = x .before .before .before .before
+
+abbrev grown : tie.After-climb → tie.After-expand
+grown m = m .before .before .before .before .before .before
+
 descend-requires : tie.Need-descend-requires
 unfolding to-search
 descend-requires c κs =
-    let u = c .before .before .before .before .pre .1 .1 in
-    (c .before .before .before .before .pre .1 .0, (to-search _ _ _ _ _ _ (u .from .going) (u .from .ranges) (u .from .on), u .unsolved))
+    let given = c .before .before .before .before .pre .1 in
+    let u = given .1 in
+    (given .0, (to-search _ _ _ _ _ _ (u .from .going) (u .from .ranges) (u .from .on), u .unsolved))
 
 is-short-requires : tie.Need-is-short-requires
 unfolding to-search
 is-short-requires c κs =
-    let u = c .before .before .before .before .before .before .before .pre .1 .1 in
-    (_, to-count _ _ _ _ _ _ (u .from .going) (u .from .ranges) (u .from .on) (u .unsolved) (u .more) _ _ _ (c .before .before .descend .ensures (to-search _ _ _ _ _ _ (u .from .going) (u .from .ranges) (u .from .on)) (u .unsolved)))
+    let d = c .before .before in
+    let u = call d .pre .1 .1 in
+    let st = d .descend .ensures (to-search _ _ _ _ _ _ (u .from .going) (u .from .ranges) (u .from .on)) (u .unsolved) in
+    (_, to-count _ _ _ _ _ _ (u .from .going) (u .from .ranges) (u .from .on) (u .unsolved) (u .more) _ _ _ st)
 
 same-length : tie.Need-same-length
 same-length c = search needs
@@ -27,48 +43,59 @@ same-length c = search needs
 returns : tie.Need-returns
 unfolding to-search to-count
 returns c = (
-  c .before .before .before .before .before .before .before .before .before .pre .0,
+  call (down (c .before)) .pre .0,
   λ u.
-      let st = c .before .before .before .before .descend .ensures (to-search _ _ _ _ _ _ (u .from .going) (u .from .ranges) (u .from .on)) (u .unsolved) in
+      let st = down (c .before) .descend .ensures (to-search _ _ _ _ _ _ (u .from .going) (u .from .ranges) (u .from .on)) (u .unsolved) in
       let leaf = to-count _ _ _ _ _ _ (u .from .going) (u .from .ranges) (u .from .on) (u .unsolved) (u .more) _ _ _ st in
-      let short = short-is _ _ _ _ _ _ (u .from .going) (u .from .ranges) (u .from .on) (u .unsolved) (u .more) _ _ _ st _ (c .before .is-short .ensures _ leaf) ∙ c .if1 .taken in
+      let test = c .before .is-short .ensures _ leaf in
+      let short = short-is _ _ _ _ _ _ (u .from .going) (u .from .ranges) (u .from .on) (u .unsolved) (u .more) _ _ _ st _ test ∙ c .if1 .taken in
       stepped-short u _ _ _ st short refl refl,
 )
 
 expand-requires : tie.Need-expand-requires
 unfolding to-search to-count
 expand-requires c κs =
-    let u = c .before .before .before .before .before .before .before .before .before .before .before .before .pre .1 .1 in
-    let st = c .before .before .before .before .before .before .before .descend .ensures (to-search _ _ _ _ _ _ (u .from .going) (u .from .ranges) (u .from .on)) (u .unsolved) in
+    let e = c .before .before .before in
+    let d = down (e .before) in
+    let u = call d .pre .1 .1 in
+    let st = d .descend .ensures (to-search _ _ _ _ _ _ (u .from .going) (u .from .ranges) (u .from .on)) (u .unsolved) in
     let leaf = to-count _ _ _ _ _ _ (u .from .going) (u .from .ranges) (u .from .on) (u .unsolved) (u .more) _ _ _ st in
-    let short = short-is _ _ _ _ _ _ (u .from .going) (u .from .ranges) (u .from .on) (u .unsolved) (u .more) _ _ _ st _ (c .before .before .before .before .is-short .ensures _ leaf) ∙ c .before .before .before .if1 .left in
-    let ex = to-expand _ _ _ _ _ _ (u .from .going) (u .from .ranges) (u .from .on) (u .unsolved) (u .more) _ _ _ st short _ (u .from .root-is) in
-    (c .before .before .before .before .before .before .before .before .before .before .before .before .pre .1 .0, ex)
+    let test = e .before .is-short .ensures _ leaf in
+    let short = short-is _ _ _ _ _ _ (u .from .going) (u .from .ranges) (u .from .on) (u .unsolved) (u .more) _ _ _ st _ test ∙ e .if1 .left in
+    (call d .pre .1 .0, to-expand _ _ _ _ _ _ (u .from .going) (u .from .ranges) (u .from .on) (u .unsolved) (u .more) _ _ _ st short _ (u .from .root-is))
 
 climb-requires : tie.Need-climb-requires
 unfolding to-search to-count to-expand
 climb-requires c κs =
-    let u = c .before .before .before .before .before .before .before .before .before .before .before .before .before .before .before .before .before .before .pre .1 .1 in
-    let st = c .before .before .before .before .before .before .before .before .before .before .before .before .before .descend .ensures (to-search _ _ _ _ _ _ (u .from .going) (u .from .ranges) (u .from .on)) (u .unsolved) in
+    let x = c .before .before .before .before .before in
+    let e = on x in
+    let d = down (e .before) in
+    let u = call d .pre .1 .1 in
+    let st = d .descend .ensures (to-search _ _ _ _ _ _ (u .from .going) (u .from .ranges) (u .from .on)) (u .unsolved) in
     let leaf = to-count _ _ _ _ _ _ (u .from .going) (u .from .ranges) (u .from .on) (u .unsolved) (u .more) _ _ _ st in
-    let short = short-is _ _ _ _ _ _ (u .from .going) (u .from .ranges) (u .from .on) (u .unsolved) (u .more) _ _ _ st _ (c .before .before .before .before .before .before .before .before .before .before .is-short .ensures _ leaf) ∙ c .before .before .before .before .before .before .before .before .before .if1 .left in
+    let test = e .before .is-short .ensures _ leaf in
+    let short = short-is _ _ _ _ _ _ (u .from .going) (u .from .ranges) (u .from .on) (u .unsolved) (u .more) _ _ _ st _ test ∙ e .if1 .left in
     let ex = to-expand _ _ _ _ _ _ (u .from .going) (u .from .ranges) (u .from .on) (u .unsolved) (u .more) _ _ _ st short _ (u .from .root-is) in
-    let grown = c .before .before .before .before .before .expand .ensures ex in
-    let cl = to-climb _ _ _ _ _ _ (u .from .going) (u .from .ranges) (u .from .on) (u .unsolved) (u .more) _ _ _ st short _ _ grown in
-    (c .before .before .before .before .before .before .before .before .before .before .before .before .before .before .before .before .before .before .pre .0, cl)
+    (call d .pre .0, to-climb _ _ _ _ _ _ (u .from .going) (u .from .ranges) (u .from .on) (u .unsolved) (u .more) _ _ _ st short _ _ (x .expand .ensures ex))
 
 tick-requires : tie.Need-tick-requires
 unfolding to-search to-count to-expand to-climb machine.round
 tick-requires c κs =
-    let u = c .before .before .before .before .before .before .before .before .before .before .before .before .before .before .before .before .before .before .before .before .before .pre .1 .1 in
-    let st = c .before .before .before .before .before .before .before .before .before .before .before .before .before .before .before .before .descend .ensures (to-search _ _ _ _ _ _ (u .from .going) (u .from .ranges) (u .from .on)) (u .unsolved) in
+    let m = c .before .before in
+    let x = grown m in
+    let e = on x in
+    let d = down (e .before) in
+    let u = call d .pre .1 .1 in
+    let st = d .descend .ensures (to-search _ _ _ _ _ _ (u .from .going) (u .from .ranges) (u .from .on)) (u .unsolved) in
     let leaf = to-count _ _ _ _ _ _ (u .from .going) (u .from .ranges) (u .from .on) (u .unsolved) (u .more) _ _ _ st in
-    let short = short-is _ _ _ _ _ _ (u .from .going) (u .from .ranges) (u .from .on) (u .unsolved) (u .more) _ _ _ st _ (c .before .before .before .before .before .before .before .before .before .before .before .before .before .is-short .ensures _ leaf) ∙ c .before .before .before .before .before .before .before .before .before .before .before .before .if1 .left in
+    let test = e .before .is-short .ensures _ leaf in
+    let short = short-is _ _ _ _ _ _ (u .from .going) (u .from .ranges) (u .from .on) (u .unsolved) (u .more) _ _ _ st _ test ∙ e .if1 .left in
     let ex = to-expand _ _ _ _ _ _ (u .from .going) (u .from .ranges) (u .from .on) (u .unsolved) (u .more) _ _ _ st short _ (u .from .root-is) in
-    let grown = c .before .before .before .before .before .before .before .before .expand .ensures ex in
-    let cl = to-climb _ _ _ _ _ _ (u .from .going) (u .from .ranges) (u .from .on) (u .unsolved) (u .more) _ _ _ st short _ _ grown in
-    let up = c .before .before .climb .ensures .1 cl in
-    (tick-left _ _ _ _ _ _ (u .from .going) (u .from .ranges) (u .from .on) (u .unsolved) (u .more) short, freed-fewer _ _ _ _ _ _ (u .from .going) (u .from .ranges) (u .from .on) (u .unsolved) (u .more) short _ _ _ _ (up .stands))
+    let cl = to-climb _ _ _ _ _ _ (u .from .going) (u .from .ranges) (u .from .on) (u .unsolved) (u .more) _ _ _ st short _ _ (x .expand .ensures ex) in
+    let up = m .climb .ensures .1 cl in (
+      tick-left _ _ _ _ _ _ (u .from .going) (u .from .ranges) (u .from .on) (u .unsolved) (u .more) short,
+      freed-fewer _ _ _ _ _ _ (u .from .going) (u .from .ranges) (u .from .on) (u .unsolved) (u .more) short _ _ _ _ (up .stands),
+    )
 
 same-length-2 : tie.Need-same-length-2
 same-length-2 c = search needs
@@ -78,14 +105,22 @@ unfolding to-search to-count to-expand to-climb machine.round
 returns-2 c = (
   c .before .before .before .climb .ensures .0,
   λ u.
-      let st = c .before .before .before .before .before .before .before .before .before .before .before .before .before .before .before .before .before .descend .ensures (to-search _ _ _ _ _ _ (u .from .going) (u .from .ranges) (u .from .on)) (u .unsolved) in
+      let m = c .before .before .before in
+      let x = grown m in
+      let e = on x in
+      let d = down (e .before) in
+      let st = d .descend .ensures (to-search _ _ _ _ _ _ (u .from .going) (u .from .ranges) (u .from .on)) (u .unsolved) in
       let leaf = to-count _ _ _ _ _ _ (u .from .going) (u .from .ranges) (u .from .on) (u .unsolved) (u .more) _ _ _ st in
-      let short = short-is _ _ _ _ _ _ (u .from .going) (u .from .ranges) (u .from .on) (u .unsolved) (u .more) _ _ _ st _ (c .before .before .before .before .before .before .before .before .before .before .before .before .before .before .is-short .ensures _ leaf) ∙ c .before .before .before .before .before .before .before .before .before .before .before .before .before .if1 .left in
+      let test = e .before .is-short .ensures _ leaf in
+      let short = short-is _ _ _ _ _ _ (u .from .going) (u .from .ranges) (u .from .on) (u .unsolved) (u .more) _ _ _ st _ test ∙ e .if1 .left in
       let ex = to-expand _ _ _ _ _ _ (u .from .going) (u .from .ranges) (u .from .on) (u .unsolved) (u .more) _ _ _ st short _ (u .from .root-is) in
-      let grown = c .before .before .before .before .before .before .before .before .before .expand .ensures ex in
-      let cl = to-climb _ _ _ _ _ _ (u .from .going) (u .from .ranges) (u .from .on) (u .unsolved) (u .more) _ _ _ st short _ _ grown in
-      let up = c .before .before .before .climb .ensures .1 cl in
-      stepped-on u short _ _ _ _ _ (c .before .before .before .climb .kept .0 ∙ c .before .before .before .before .before .before .before .before .before .expand .kept .1 .0) (beyond-trans (c .before .before .before .before .before .before .before .before .before .before .before .before .before .before .before .before .before .before .before .before .before .before .args .words .now) (c .before .before .before .before .before .before .before .before .before .expand .last .1 .0) (c .before .before .before .climb .last .0) (c .before .before .before .before .before .before .before .before .before .expand .kept .1 .0) (grown .past) (up .past)) (up .stands) (c .tick .ensures),
+      let more = x .expand .ensures ex in
+      let cl = to-climb _ _ _ _ _ _ (u .from .going) (u .from .ranges) (u .from .on) (u .unsolved) (u .more) _ _ _ st short _ _ more in
+      let up = m .climb .ensures .1 cl in
+      let w = call d .args .words .now in
+      let w₁ = x .expand .last .1 .0 in
+      let w₂ = m .climb .last .0 in
+      stepped-on u short _ _ _ _ _ (m .climb .kept .0 ∙ x .expand .kept .1 .0) (beyond-trans w w₁ w₂ (x .expand .kept .1 .0) (more .past) (up .past)) (up .stands) (c .tick .ensures),
 )
 
 pub round-spec : {M : Type 1} → statement M
