@@ -13,13 +13,21 @@ use borrow.Author.Needs.{needs}
 use Rattle.pn.proofs.begin.Statement.{statement}
 use Rattle.pn.proofs.begin.Tie as tie
 
+-- From each call back to the one before it, and to the start
+abbrev call : tie.After-start → tie.Start
+call s = s .before .before .before
+
+abbrev started : tie.After-root-value → tie.After-start
+started v = v .before .before .before
+
 start-requires : tie.Need-start-requires
 start-requires c κs = search needs
 
 root-value-requires : tie.Need-root-value-requires
 root-value-requires c κs =
-    let st = c .before .before .before .before .before .pre .3 in
-    (c .before .before .before .before .before .pre .0, (st .pos, c .before .before .start .ensures .1 (st .pos) (st .holds)))
+    let s = c .before .before in
+    let given = call s .pre .3 in
+    (call s .pre .0, (given .pos, s .start .ensures .1 (given .pos) (given .holds)))
 
 leaf-bounds-requires : tie.Need-leaf-bounds-requires
 leaf-bounds-requires c κs = search needs
@@ -32,8 +40,8 @@ pack-requires c κs = search needs
 
 alloc-requires : tie.Need-alloc-requires
 alloc-requires c κs =
-    let st = c .before .before .before .before .before .before .before .before .before .before .pre .3 in
-    all-spare _ (st .some) (st .few)
+    let given = call (started (c .before .before .before .before)) .pre .3 in
+    all-spare _ (given .some) (given .few)
 
 element-write-path : tie.Need-element-write-path
 element-write-path c = search needs
@@ -43,14 +51,23 @@ same-length c = search needs
 
 returns : tie.Need-returns
 returns c p h a =
-    let st = c .before .before .before .before .before .before .before .before .before .before .before .before .before .before .before .pre .3 in
-    let al = c .before .before .before .before .alloc .ensures (all-spare _ (st .some) (st .few)) in
-    let here = c .before .before .before .before .before .before .before .before .before .before .before .before .start .ensures .1 p h in
-    let value = c .before .before .before .before .before .before .before .before .before .root-value .ensures p here a in
-    begun (c .before .before .before .before .before .before .before .before .before .before .before .before .before .before .before .args .rule) p _ (st .some) (st .few) _ _ _ _ _ _ _ _ _ _ value
-    (c .before .before .before .before .before .before .before .before .leaf-bounds .ensures (c .before .before .before .before .before .before .before .before .before .before .before .before .before .before .before .args .rule) (p .side) p 255 value (root-and (c .before .before .before .before .before .before .before .before .before .before .before .before .before .before .before .args .rule) p))
-    (c .before .before .before .before .before .before .pack .ensures ∙ ap (λ (m : ℕ). pack (number (c .before .before .before .before .before .before .before .before .before .root-value .result)) 0 (bit false) 0 m) (c .before .before .before .before .before .before .before .none .ensures))
-    (al .number) (al .filled) (al .past) (getD-set-same (c .before .before .before .before .before .before .before .before .before .before .before .before .before .before .before .args .path .now) 0 _ 0 (omega (arith, c .before .before .before .before .before .before .before .before .before .before .before .before .before .before .before .pre .1))) (length-set (c .before .before .before .before .before .before .before .before .before .before .before .before .before .before .before .args .path .now) 0 _ ∙ c .before .before .before .before .before .before .before .before .before .before .before .before .before .before .before .pre .1) (c .before .before .before .before .before .before .before .before .before .before .before .before .start .ensures .0) here
+    let l = c .before .before .before .before in
+    let k = l .before .before in
+    let n = k .before in
+    let b = n .before in
+    let v = b .before in
+    let s = started v in
+    let rule = call s .args .rule in
+    let path = call s .args .path .now in
+    let given = call s .pre .3 in
+    let here = s .start .ensures .1 p h in
+    let value = v .root-value .ensures p here a in
+    let node = l .alloc .ensures (all-spare _ (given .some) (given .few)) in
+    begun rule p _ (given .some) (given .few) _ _ _ _ _ _ _ _ _ _ value
+    (b .leaf-bounds .ensures rule (p .side) p 255 value (root-and rule p))
+    (k .pack .ensures ∙ ap (λ (m : ℕ). pack (number (v .root-value .result)) 0 (bit false) 0 m) (n .none .ensures))
+    (node .number) (node .filled) (node .past)
+    (getD-set-same path 0 _ 0 (omega (arith, call s .pre .1))) (length-set path 0 _ ∙ call s .pre .1) (s .start .ensures .0) here
 
 pub begin-spec : {M : Type 1} → statement M
 begin-spec =
