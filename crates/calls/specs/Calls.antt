@@ -12,9 +12,12 @@ use Rattle.rules.specs.Refusals.{refuses, firstRefusal}
 use Rattle.plain.specs.Plain.{recordValue}
 use Rattle.referee.specs.OpenCells.{openCells}
 
--- The draw rules are 0, 1 and 2, for every call that has one.
+-- The draw rules are 0, 1 and 2, for every call that has one; the referee takes at most nine empty cells in boards in play.
 abbrev pub lastRule : ℕ
 lastRule = 2
+
+abbrev pub mostOpen : ℕ
+mostOpen = 9
 
 -- The answer of a call, from the number of the check that refuses it, or 0.
 abbrev pub answerUnless : {A : Type 0} → ℕ → (ℕ → A) → A → A
@@ -68,9 +71,9 @@ pub record RefereeOutcome : Type 0 where
 abbrev pub refereeOutcome : ℕ → ℕ → ℕ → RefereeOutcome
 refereeOutcome n i v = record { number = n; index = i; value = v }
 
--- Checks 10 and 16 after those of the record: a rule over 2, over nine empty cells in boards in play.
+-- Checks 10 and 16 after those of the record.
 unfoldable pub refereeRefusal : (bytes : List ℕ) (rule : ℕ) → ℕ
-refereeRefusal bytes rule = firstRefusal (refusal bytes ∷ refuses 10 (ltb lastRule rule) ∷ refuses 16 (ltb 9 (openCells (positionOf bytes))) ∷ [])
+refereeRefusal bytes rule = firstRefusal (refusal bytes ∷ refuses 10 (ltb lastRule rule) ∷ refuses 16 (ltb mostOpen (openCells (positionOf bytes))) ∷ [])
 
 unfoldable pub refereeCall : (bytes : List ℕ) (rule : ℕ) → RefereeOutcome
 refereeCall bytes rule = answerUnless (refereeRefusal bytes rule) (λ n. refereeOutcome n 0 0) (refereeOutcome 0 0 (cond (recordValue rule bytes) 1 2))

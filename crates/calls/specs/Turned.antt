@@ -13,7 +13,7 @@ use Rattle.rules.specs.Refusals.{refuses, firstRefusal}
 use Rattle.rules.specs.RefusalLaws.{none-refuses, first-refuses, rest-refuses}
 use Rattle.plain.specs.Plain.{recordValue}
 use Rattle.referee.specs.OpenCells.{openCells}
-use Rattle.calls.specs.Calls.{lastRule, answerUnless, outputRefusal, replayOutcome, afterMoves, replayCall, movesOutcome, listed, movesCall}
+use Rattle.calls.specs.Calls.{lastRule, mostOpen, answerUnless, outputRefusal, replayOutcome, afterMoves, replayCall, movesOutcome, listed, movesCall}
 use Rattle.calls.specs.Calls.{RefereeOutcome, refereeOutcome, refereeRefusal, refereeCall}
 use Rattle.calls.specs.Refusing.{passes-test, refused-by, passed-all}
 
@@ -46,7 +46,7 @@ module _ (bytes : List ℕ) (rule : ℕ) where
   unfolding refereeRefusal
   referee-record n e z = rw (← e) (sym (first-refuses n _ z))
 
-  pub referee-late : refusal bytes ≡ 0 → (a b n r : ℕ) → a ≡ refuses 10 (ltb lastRule rule) → n ≡ openCells (positionOf bytes) → b ≡ refuses 16 (ltb 9 n)
+  pub referee-late : refusal bytes ≡ 0 → (a b n r : ℕ) → a ≡ refuses 10 (ltb lastRule rule) → n ≡ openCells (positionOf bytes) → b ≡ refuses 16 (ltb mostOpen n)
       → r ≡ firstRefusal (a ∷ b ∷ []) → r ≡ refereeRefusal bytes rule
   unfolding refereeRefusal
   referee-late loaded a b n r ea eo eb er = rw (er, ea, eb, eo) (sym (rest-refuses (refusal bytes) _ loaded))
