@@ -28,8 +28,8 @@ use prove::Bounds;
 use prove::Evaluation;
 use prover::Prover;
 
-// The children made so far: the head of the freed nodes, how many numbers have been used, how many children there are, the last made, and the numbers that they give their parent. Ended: the last made has
-// delta 0.
+// The children made so far: the head of the freed nodes, how many numbers have been used, how many children there are, the last made,
+// and the numbers that they give their parent. Ended: the last made has delta 0.
 pub struct Made {
     pub head: NodeID,
     pub used: u32,

@@ -1,7 +1,7 @@
 // The positions of the line that a search follows, a ply a place of 24 words in one flat array: the root's at ply 0.
 
 ghost use mathlib.Core.Path.{_≡_};
-ghost use Prim.Native.Nat.{ℕ, _+_, _*_, _<_};
+ghost use Prim.Native.Nat.{_+_, _*_, _<_};
 ghost use lib.ListN.{length};
 ghost use Rattle.rules.specs.Rules.{Position};
 ghost use Rattle.game.specs.Lines.{lineTable};

@@ -1,7 +1,5 @@
 -- `children::count_moves` meets its contract: by the target, one board, all boards or none. Assumes nothing.
 use mathlib.Core.Path.{ap, sym, _∙_}
-use Prim.Native.Nat.{_+_}
-use native.Mathlib.Omega.{arith}
 use Rattle.children.specs.Counts.{boardMoves, target-length, free-length, no-length}
 use borrow.Author.Needs.{needs}
 use Rattle.children.proofs.count_moves.Statement.{statement}
@@ -23,7 +21,9 @@ board-moves-requires : tie.Need-board-moves-requires
 board-moves-requires c κs = search needs
 
 returns : tie.Need-returns
-returns c p h g = c .free-moves .ensures p h (c .before .before .before .done-bits .ensures p h) (sym (c .before .before .target .ensures ∙ h .target) ∙ c .before .match .keys1) ∙ sym (free-length p g)
+returns c p h g =
+    let t = c .before .before .target .ensures ∙ h .target in
+    c .free-moves .ensures p h (c .before .before .before .done-bits .ensures p h) (sym t ∙ c .before .match .keys1) ∙ sym (free-length p g)
 
 returns-2 : tie.Need-returns-2
 returns-2 c p h g =

@@ -22,9 +22,9 @@ all-made c g =
     let n = c .before .before in
     let a = n .before .before .before in
     let k = a .before in
-    let b = k .before .before .before .before in
+    let b = k .before .before .before .before .base .ensures in
     c .make-children .ensures
-    (unmade _ _ _ _ _ _ g _ (n .nothing .ensures) _ _ _ (k .before .before .read .ensures _ (leaf-at _ _ _ _ _ _ g _ (b .base .ensures))) (b .base .ensures) refl refl (ap not (a .and-in .ensures)) (k .packed .ensures))
+    (unmade _ _ _ _ _ _ g _ (n .nothing .ensures) _ _ _ (k .before .before .read .ensures _ (leaf-at _ _ _ _ _ _ g _ b)) b refl refl (ap not (a .and-in .ensures)) (k .packed .ensures))
 
 mul-and-in : tie.Need-mul-and-in
 mul-and-in c = search needs
@@ -52,10 +52,10 @@ make-children-requires c κs =
     let n = c .before in
     let a = n .before .before .before in
     let k = a .before in
-    let b = k .before .before .before .before in
+    let b = k .before .before .before .before .base .ensures in
     let s = call n in
     let g = s .pre .1 in
-    (s .pre .0, unmade _ _ _ _ _ _ g _ (n .nothing .ensures) _ _ _ (k .before .before .read .ensures _ (leaf-at _ _ _ _ _ _ g _ (b .base .ensures))) (b .base .ensures) refl refl (ap not (a .and-in .ensures)) (k .packed .ensures))
+    (s .pre .0, unmade _ _ _ _ _ _ g _ (n .nothing .ensures) _ _ _ (k .before .before .read .ensures _ (leaf-at _ _ _ _ _ _ g _ b)) b refl refl (ap not (a .and-in .ensures)) (k .packed .ensures))
 
 attach-requires : tie.Need-attach-requires
 attach-requires c κs =

@@ -26,7 +26,10 @@ led-to-requires : tie.Need-led-to-requires
 led-to-requires c κs = search needs
 
 returns-2 : tie.Need-returns-2
-returns-2 c p h = sym (rw (sym (ap not (c .before .before .before .before .in-play .ensures p h)) ∙ c .before .before .before .if1 .left, sym (ap not (c .before .led-to .ensures ∙ ap (λ t. leads t (c .before .before .before .before .before .before .args .b)) (c .before .before .target .ensures ∙ h .target))) ∙ c .if2 .taken))
+returns-2 c p h =
+    let t = c .before .before in
+    let led = c .before .led-to .ensures ∙ ap (λ (x : ℕ). leads x (t .before .before .before .before .args .b)) (t .target .ensures ∙ h .target) in
+    sym (rw (sym (ap not (t .before .before .in-play .ensures p h)) ∙ t .before .if1 .left, sym (ap not led) ∙ c .if2 .taken))
 
 at-requires : tie.Need-at-requires
 at-requires c κs = search needs
@@ -39,7 +42,10 @@ enum-told-2 c = search needs
 
 returns-3 : tie.Need-returns-3
 returns-3 c p h =
-    sym (rw (sym (ap not (c .before .before .before .before .before .before .before .in-play .ensures p h)) ∙ c .before .before .before .before .before .before .if1 .left, sym (ap not (c .before .before .before .before .led-to .ensures ∙ ap (λ t. leads t (c .before .before .before .before .before .before .before .before .before .args .b)) (c .before .before .before .before .before .target .ensures ∙ h .target))) ∙ c .before .before .before .if2 .left, sym (c .before .before .at .ensures p h) ∙ ap cellNumber (c .enum-told .given .1)))
+    let d = c .before .before .before in
+    let t = d .before .before in
+    let led = d .before .led-to .ensures ∙ ap (λ (x : ℕ). leads x (t .before .before .before .before .args .b)) (t .target .ensures ∙ h .target) in
+    sym (rw (sym (ap not (t .before .before .in-play .ensures p h)) ∙ t .before .if1 .left, sym (ap not led) ∙ d .if2 .left, sym (c .before .before .at .ensures p h) ∙ ap cellNumber (c .enum-told .given .1)))
 
 -- a played cell is not empty
 taken : (cell : CellState) (s : Player) → cell ≡ Played s → {n : ℕ} → cellNumber cell ≡ n → eqb n 0 ≡ false
@@ -48,7 +54,10 @@ taken cell O e q = rw (sym q, e)
 
 returns-4 : tie.Need-returns-4
 returns-4 c p h =
-    sym (rw (sym (ap not (c .before .before .before .before .before .before .before .in-play .ensures p h)) ∙ c .before .before .before .before .before .before .if1 .left, sym (ap not (c .before .before .before .before .led-to .ensures ∙ ap (λ t. leads t (c .before .before .before .before .before .before .before .before .before .args .b)) (c .before .before .before .before .before .target .ensures ∙ h .target))) ∙ c .before .before .before .if2 .left, taken _ _ (c .enum-told2 .given .1) (c .before .before .at .ensures p h)))
+    let d = c .before .before .before in
+    let t = d .before .before in
+    let led = d .before .led-to .ensures ∙ ap (λ (x : ℕ). leads x (t .before .before .before .before .args .b)) (t .target .ensures ∙ h .target) in
+    sym (rw (sym (ap not (t .before .before .in-play .ensures p h)) ∙ t .before .if1 .left, sym (ap not led) ∙ d .if2 .left, taken _ _ (c .enum-told2 .given .1) (c .before .before .at .ensures p h)))
 
 pub check-cell-spec : {M : Type 1} → statement M
 check-cell-spec =

@@ -1,5 +1,6 @@
 -- `node_pool::put` meets its contract: a node of the pool has all its words there.
 use native.Mathlib.Omega.{arith}
+use mathlib.Core.Path.{refl}
 use borrow.Author.Needs.{needs}
 use Rattle.node_pool.proofs.put.Statement.{statement}
 use Rattle.node_pool.proofs.put.Tie as tie
@@ -23,7 +24,7 @@ same-length : tie.Need-same-length
 same-length c = search needs
 
 returns : tie.Need-returns
-returns c = search needs
+returns c = refl
 
 pub put-spec : {M : Type 1} → statement M
 put-spec = tie.close (tie.spec cast-place mul-place add-place mul-words slice-write-words same-length returns)
