@@ -1,12 +1,12 @@
 -- What the checks of a search tell: one that is not refused has a record that loads and numbers within their ranges, and that is what the search asks for.
 -- Rests on Searches, calls' Refusing and pn's Searchable.
-use mathlib.Core.Path.{_≡_}
+use mathlib.Core.Path.{_≡_, sym, _∙_}
 use mathlib.Core.List.{List}
 use Prim.Native.Nat.{ℕ, _≤_}
 use native.Mathlib.Omega.{arith}
 use borrow.Author.Tests.{le-ltb}
 use lib.ListN.{length}
-use Rattle.rules.specs.Record.{positionOf, refusal}
+use Rattle.rules.specs.Record.{positionOf, refusal, Accepted}
 use Rattle.rules.specs.Checks.{loads, loads-accepted}
 use Rattle.rules.specs.RefusalLaws.{none-refuses}
 use Rattle.game.specs.Words.{Holds}
@@ -47,21 +47,33 @@ accepts bytes words rule L e =
 pub of-pool : (bytes : List ℕ) (capacity words rule : ℕ) (L : Limits) (n : ℕ) → n ≡ searchRefusal bytes capacity rule L → capacity ≡ nodes words → n ≡ searchRefusal bytes (nodes words) rule L
 of-pool bytes capacity words rule L n e q = rw (e, q)
 
+-- every check is passed, and the words g hold the record's position
+pub record Passed (bytes g : List ℕ) (words rule : ℕ) (L : Limits) : Type 0 where
+  pub holds : Holds (positionOf bytes) g 0
+  pub none : searchRefusal bytes (nodes words) rule L ≡ 0
+
+module _ {bytes g : List ℕ} {rule : ℕ} (words : ℕ) (L : Limits) where
+  pub passed-all : {capacity n : ℕ} → n ≡ searchRefusal bytes capacity rule L → capacity ≡ nodes words → n ≡ 0 → Holds (positionOf bytes) g 0 → Passed bytes g words rule L
+  passed-all e q z h = record { holds = h; none = sym (of-pool bytes _ words rule L _ e q) ∙ z }
+
+  pub passed-accepted : Passed bytes g words rule L → Accepted (positionOf bytes)
+  passed-accepted h = loads-accepted bytes (loads bytes (accepts bytes words rule L (h .none) .loads))
+
 -- the checks are the same under each of the rules
-pub same-checks : (bytes : List ℕ) (capacity rule : ℕ) (L : Limits) → rule ≤ lastRule → searchRefusal bytes capacity rule L ≡ searchRefusal bytes capacity 0 L
+pub passed-rule : {bytes g : List ℕ} {words words′ : ℕ} {L : Limits} (rule : ℕ) → rule ≤ lastRule → words′ ≡ words → Passed bytes g words 0 L → Passed bytes g words′ rule L
 unfolding searchRefusal
-same-checks bytes capacity rule L l = rw (le-ltb lastRule rule l)
+passed-rule rule l e h = record { holds = h .holds; none = rw (le-ltb lastRule rule l, e) (h .none) }
 
 -- what the search asks for, once every check is passed
-pub to-search : (bytes g w : List ℕ) (rule : ℕ) (L : Limits) → Holds (positionOf bytes) g 0 → searchRefusal bytes (nodes (length w)) rule L ≡ 0
+pub to-search : (bytes g w : List ℕ) (rule : ℕ) (L : Limits) → Passed bytes g (length w) rule L
     → Searchable g w (record { rule = rule; limit = L .limit; budget = L .budget; interval = L .interval })
-to-search bytes g w rule L holds none =
-    let a = accepts bytes (length w) rule L none in
+to-search bytes g w rule L h =
+    let a = accepts bytes (length w) rule L (h .none) in
     record {
       startable = record {
         pos = positionOf bytes;
-        holds = holds;
-        accepted = loads-accepted bytes (loads bytes (a .loads));
+        holds = h .holds;
+        accepted = passed-accepted (length w) L h;
         some = omega (arith, a .range .some);
         few = omega (arith, a .range .most);
       };

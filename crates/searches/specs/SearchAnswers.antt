@@ -1,4 +1,4 @@
--- The answers of search and full verdict, each from the check that decides. Rests on Searches and Accepting.
+-- The answers of search and full verdict, each from the check that decides. Rests on Searches.
 use mathlib.Core.Path.{_≡_, refl, ap, sym, _∙_}
 use mathlib.Core.List.{List}
 use Prim.Native.Nat.{ℕ, zero, suc}
@@ -8,7 +8,6 @@ use Rattle.plain.specs.Plain.{plainSearch}
 use Rattle.calls.specs.Calls.{answerUnless}
 use Rattle.calls.specs.Refusing.{refused-by}
 use Rattle.searches.specs.Searches.{Limits, nodes, settings, searchRefusal, Refused, Answered, searchCall, FullVerdict, fullOf, Turned, Full, fullCall}
-use Rattle.searches.specs.Accepting.{same-checks}
 
 module _ (bytes : List ℕ) (words rule : ℕ) (L : Limits) where
   pub search-refused : (n : ℕ) → n ≡ searchRefusal bytes (nodes words) rule L → (n ≡ 0 → ⊥) → Refused n ≡ searchCall bytes words rule L
@@ -45,16 +44,6 @@ module _ (bytes : List ℕ) (words : ℕ) (L : Limits) where
   unfolding fullCall
   full-with e r s q p = rw (e, q, p)
 
-  pub full-refused : (n : ℕ) → searchCall bytes words 1 L ≡ Refused n → Turned n ≡ fullCall bytes words L
+  pub full-refused : (n : ℕ) → n ≡ searchRefusal bytes (nodes words) 0 L → (n ≡ 0 → ⊥) → Turned n ≡ fullCall bytes words L
   unfolding fullCall
-  full-refused n e = let h = refused bytes words 1 L n e in refused-by Turned _ n _ (h .0 ∙ same-checks bytes (nodes words) 1 L (omega arith)) (h .1)
-
-  module _ (r : Result) (e : searchCall bytes words 1 L ≡ Answered r) where
-    none : searchRefusal bytes (nodes words) 0 L ≡ 0
-    none = sym (same-checks bytes (nodes words) 1 L (omega arith)) ∙ answered bytes words 1 L r e .0
-
-    pub full-not-refused : (n : ℕ) → searchCall bytes words 2 L ≡ Refused n → ⊥
-    full-not-refused n f = let h = refused bytes words 2 L n f in h .1 (h .0 ∙ same-checks bytes (nodes words) 2 L (omega arith) ∙ none)
-
-    pub full-answered : (s : Result) → searchCall bytes words 2 L ≡ Answered s → (v : FullVerdict) → v ≡ fullOf (r .verdict) (s .verdict) → Full v r s ≡ fullCall bytes words L
-    full-answered s f v q = ap (λ x. Full x r s) q ∙ sym (full-with none r s (sym (answered bytes words 1 L r e .1)) (sym (answered bytes words 2 L s f .1)))
+  full-refused n e z = refused-by Turned _ n _ e z

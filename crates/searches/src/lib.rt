@@ -1,18 +1,23 @@
 // The calls search and full verdict, the checks that every search takes, and two searches of one record.
 
 ghost use mathlib.Core.Path.{_≡_};
+ghost use mathlib.Core.List.{List};
 ghost use Prim.Native.Nat.{ℕ};
 ghost use lib.ListN.{length};
 ghost use Rattle.rules.specs.Record.{positionOf};
 ghost use Rattle.game.specs.Words.{Holds};
 ghost use Rattle.machine.specs.Machine.{Result};
 ghost use Rattle.prove.specs.Numbers.{verdict};
-ghost use Rattle.searches.specs.Searches.{searchRefusal, searchCall, PoolAfter, fullOf, fullCall, PoolAfterFull};
+ghost use Rattle.plain.specs.Plain.{plainSearch};
+ghost use Rattle.pn.specs.Results.{resultOf};
+ghost use Rattle.searches.specs.Searches.{settings, searchRefusal, searchCall, Untouched, PoolAfter, fullOf, fullCall, PoolAfterFull};
 ghost use Rattle.searches.specs.Searches.{Answered as answers};
 ghost use Rattle.searches.specs.Answers.{limitsOf, searched, fullVerdict, judged};
+ghost use Rattle.searches.specs.Accepting.{Passed};
 ghost use Rattle.searches.specs.ThirdCondition.{ThirdCondition};
 use calls::LAST_RULE;
 use calls::refusals;
+use game::Game;
 use pn::SearchResult;
 use pn::Settings;
 use prove::Evaluation;
@@ -64,6 +69,20 @@ pub fn accept(bytes: &[u8], nodes: usize, rule: u64, l: SearchLimits) -> Loaded
     }
 }
 
+// Searches an accepted record's position in the lent pool.
+fn search_accepted(start: Game, words: &mut [u32], rule: u64, l: SearchLimits) -> SearchResult
+    requires { ⌜ ((bytes : List ℕ) × Passed bytes (start .words) (length (now words)) rule (limitsOf l)) ⌝ }
+    ensures { λ r. ⌜ ((bytes : List ℕ) → Passed bytes (start .words) (length (now (words .entry))) rule (limitsOf l) → resultOf r ≡ plainSearch rule (settings (length (now (words .entry))) (limitsOf l)) bytes) × Untouched (now (words .entry)) (now (words .exit)) ⌝ }
+{
+    let s = Settings {
+        rule,
+        limit: l.limit,
+        budget: l.budget,
+        interval: l.interval,
+    };
+    pn::search(words, start, s)
+}
+
 // Searches a record's position in the lent pool.
 pub fn search(bytes: &[u8], words: &mut [u32], rule: u64, l: SearchLimits) -> Outcome
     ensures { λ r. ⌜ (searched r ≡ searchCall (now (bytes .entry)) (length (now (words .entry))) rule (limitsOf l)) × PoolAfter (searched r) (now (words .entry)) (now (words .exit)) ⌝ }
@@ -74,13 +93,7 @@ pub fn search(bytes: &[u8], words: &mut [u32], rule: u64, l: SearchLimits) -> Ou
         return Outcome::Refused(loaded.code);
     }
     let start = loaded.game;
-    let s = Settings {
-        rule,
-        limit: l.limit,
-        budget: l.budget,
-        interval: l.interval,
-    };
-    Outcome::Answered(pn::search(words, start, s))
+    Outcome::Answered(search_accepted(start, words, rule, l))
 }
 
 // The answers of two searches.
@@ -142,24 +155,20 @@ fn full_of(first: Evaluation, second: Evaluation) -> FullVerdict
     }
 }
 
-// Searches a record's position under rule 1, then under rule 2, each from a fresh pool: nothing that the first left in the words counts.
+// Searches a record's position under rule 1, then under rule 2, each from a fresh pool: nothing that the first left in the words counts. Its checks are those of
+// a search under any rule.
 pub fn full_verdict(bytes: &[u8], words: &mut [u32], l: SearchLimits) -> FullOutcome
     ensures { λ r. ⌜ (judged r ≡ fullCall (now (bytes .entry)) (length (now (words .entry))) (limitsOf l)) × PoolAfterFull (judged r) (now (words .entry)) (now (words .exit)) ⌝ }
 {
-    let first = search(bytes, words, 1, l);
-    match first {
-        Outcome::Refused(n) => FullOutcome::TurnedBack(n),
-        Outcome::Answered(r) => {
-            let second = search(bytes, words, 2, l);
-            match second {
-                // No second search is refused: it has the checks of the first, and both rules pass.
-                Outcome::Refused(n) => FullOutcome::TurnedBack(n),
-                Outcome::Answered(s) => {
-                    let with_rule_1 = r.verdict;
-                    let with_rule_2 = s.verdict;
-                    FullOutcome::Full(full_of(with_rule_1, with_rule_2), r, s)
-                }
-            }
-        }
+    let nodes = node_pool::capacity(words);
+    let loaded = accept(bytes, nodes, 0, l);
+    if loaded.code != 0 {
+        return FullOutcome::TurnedBack(loaded.code);
     }
+    let start = loaded.game;
+    let first = search_accepted(start, words, 1, l);
+    let second = search_accepted(start, words, 2, l);
+    let with_rule_1 = first.verdict;
+    let with_rule_2 = second.verdict;
+    FullOutcome::Full(full_of(with_rule_1, with_rule_2), first, second)
 }

@@ -1,83 +1,87 @@
--- `searches::full_verdict` meets its contract, from the two searches' answers. Assumes nothing.
-use mathlib.Core.Path.{sym, ap, _∙_}
-use Rattle.searches.specs.Searches.{searchCall}
-use Rattle.searches.specs.Answers.{limitsOf, searched}
-use Rattle.searches.specs.SearchAnswers.{full-refused, full-not-refused, full-answered}
+-- `searches::full_verdict` meets its contract: refused by a check, or the results of the two searches. Assumes nothing.
+use mathlib.Core.Path.{refl, sym, ap, _∙_}
+use native.Mathlib.Omega.{arith}
+use lib.ListN.{length}
+use Rattle.plain.specs.Plain.{plainSearch}
+use Rattle.pn.specs.Results.{resultOf}
+use Rattle.searches.specs.Searches.{settings, Full}
+use Rattle.searches.specs.Answers.{limitsOf}
+use Rattle.searches.specs.Accepting.{of-pool, passed-all, passed-rule}
+use Rattle.searches.specs.SearchAnswers.{full-refused, full-with}
 use Rattle.searches.specs.Pools.{untouched-twice}
 use borrow.Author.Needs.{needs}
 use Rattle.searches.proofs.full_verdict.Statement.{statement}
 use Rattle.searches.proofs.full_verdict.Tie as tie
 
-search-requires : tie.Need-search-requires
-search-requires c κs = search needs
+capacity-requires : tie.Need-capacity-requires
+capacity-requires c κs = search needs
 
-enum-known-first : tie.Need-enum-known-first
-enum-known-first c = search needs
-
-enum-known-first-2 : tie.Need-enum-known-first-2
-enum-known-first-2 c = search needs
-
-search-requires-2 : tie.Need-search-requires-2
-search-requires-2 c κs = search needs
-
-enum-known-second : tie.Need-enum-known-second
-enum-known-second c = search needs
-
-enum-known-second-2 : tie.Need-enum-known-second-2
-enum-known-second-2 c = search needs
-
-full-of-requires : tie.Need-full-of-requires
-full-of-requires c κs = search needs
+accept-requires : tie.Need-accept-requires
+accept-requires c κs = search needs
 
 same-length : tie.Need-same-length
 same-length c = search needs
 
 returns : tie.Need-returns
-returns c =
-    let one = c .before .before .before .before .before .search in
-    let is = c .before .first .given .1 in
-    (full-refused _ _ _ _ (sym (one .ensures .0) ∙ ap searched is), rw is at (one .ensures .1))
+returns c = (full-refused _ _ _ _ (search (of-pool)) (c .if1 .taken), refl)
+
+search-accepted-requires : tie.Need-search-accepted-requires
+search-accepted-requires c κs =
+    let passed = c .before .before in
+    let accepted = passed .before .before in
+    let start = accepted .before .before .before .before .before in (
+      _,
+      passed-rule 1 (omega arith) refl
+          (passed-all (length (start .args .words .now)) (limitsOf (start .args .l)) (accepted .accept .ensures .0) (accepted .before .capacity .ensures) (passed .if1 .left)
+          (accepted .accept .ensures .1 (passed .if1 .left))),
+    )
+
+search-accepted-requires-2 : tie.Need-search-accepted-requires-2
+search-accepted-requires-2 c κs =
+    let one = c .before .before .before in
+    let passed = one .before .before .before in
+    let accepted = passed .before .before in
+    let start = accepted .before .before .before .before .before in (
+      _,
+      passed-rule 2 (omega arith) (one .search-accepted .kept .1 .0)
+          (passed-all (length (start .args .words .now)) (limitsOf (start .args .l)) (accepted .accept .ensures .0) (accepted .before .capacity .ensures) (passed .if1 .left)
+          (accepted .accept .ensures .1 (passed .if1 .left))),
+    )
+
+full-of-requires : tie.Need-full-of-requires
+full-of-requires c κs = search needs
 
 same-length-2 : tie.Need-same-length-2
 same-length-2 c = search needs
 
 returns-2 : tie.Need-returns-2
 returns-2 c =
-    let one = c .before .before .before .before .before .before .before .before .before .before .before .before .search in
-    let two = c .before .before .before .before .before .search2 in
-    let args = c .before .before .before .before .before .before .before .before .before .before .before .before .before .before .before .before .args in
-    absurd (full-not-refused (args .bytes .now) _ (limitsOf (args .l)) _ (sym (one .ensures .0) ∙ ap searched (c .before .before .before .before .before .before .before .before .first2 .given .1)) _
-    (ap (λ n. searchCall (args .bytes .now) n 2 (limitsOf (args .l))) (sym (one .kept .1 .0)) ∙ sym (two .ensures .0) ∙ ap searched (c .before .second .given .1)))
-
-same-length-3 : tie.Need-same-length-3
-same-length-3 c = search needs
-
-returns-3 : tie.Need-returns-3
-returns-3 c =
-    let one = c .before .before .before .before .before .before .before .before .before .before .before .before .before .search in
-    let two = c .before .before .before .before .before .before .search2 in
-    let args = c .before .before .before .before .before .before .before .before .before .before .before .before .before .before .before .before .before .args in
-    let first = c .before .before .before .before .before .before .before .before .before .first2 .given .1 in
-    let second = c .before .before .second2 .given .1 in (
-      full-answered (args .bytes .now) _ (limitsOf (args .l)) _ (sym (one .ensures .0) ∙ ap searched first) _
-          (ap (λ n. searchCall (args .bytes .now) n 2 (limitsOf (args .l))) (sym (one .kept .1 .0)) ∙ sym (two .ensures .0) ∙ ap searched second) _ (c .full-of .ensures),
-      untouched-twice (args .words .now) (one .last .1 .0) (two .last .1 .0) (rw first at (one .ensures .1)) (rw second at (two .ensures .1)),
+    let two = c .before .before .before in
+    let one = two .before .before .before .before in
+    let passed = one .before .before .before in
+    let accepted = passed .before .before in
+    let start = accepted .before .before .before .before .before in
+    let L = limitsOf (start .args .l) in
+    let long = one .search-accepted .kept .1 .0 in
+    let all = passed-all (length (start .args .words .now)) L (accepted .accept .ensures .0) (accepted .before .capacity .ensures) (passed .if1 .left)
+    (accepted .accept .ensures .1 (passed .if1 .left)) in
+    let first = one .search-accepted .ensures .0 _ (passed-rule 1 (omega arith) refl all) in
+    let second = two .search-accepted2 .ensures .0 _ (passed-rule 2 (omega arith) long all) ∙ ap (λ n. plainSearch 2 (settings n L) (start .args .bytes .now)) long in (
+      ap (λ v. Full v (resultOf (one .search-accepted .result)) (resultOf (two .search-accepted2 .result))) (c .full-of .ensures)
+          ∙ sym (full-with (start .args .bytes .now) _ L (all .none) _ _ (sym first) (sym second)),
+      untouched-twice (start .args .words .now) (one .search-accepted .last .1 .0) (two .search-accepted2 .last .1 .0) (one .search-accepted .ensures .1) (two .search-accepted2 .ensures .1),
     )
 
 pub full-verdict-spec : {M : Type 1} → statement M
 full-verdict-spec =
     tie.close
     (tie.spec
-    search-requires
-    enum-known-first
-    enum-known-first-2
-    search-requires-2
-    enum-known-second
-    enum-known-second-2
-    full-of-requires
+    capacity-requires
+    accept-requires
     same-length
     returns
+    search-accepted-requires
+    search-accepted-requires-2
+    full-of-requires
     same-length-2
-    returns-2
-    same-length-3
-    returns-3)
+    returns-2)

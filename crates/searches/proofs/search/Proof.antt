@@ -1,10 +1,9 @@
 -- `searches::search` meets its contract: refused by a check, or the search's result. Assumes nothing.
-use mathlib.Core.Path.{refl, sym, _∙_}
-use Rattle.rules.specs.Checks.{loads, loads-accepted}
+use mathlib.Core.Path.{refl, sym}
+use lib.ListN.{length}
 use Rattle.searches.specs.Answers.{limitsOf}
-use Rattle.searches.specs.Accepting.{accepts, of-pool, to-search}
+use Rattle.searches.specs.Accepting.{of-pool, passed-all}
 use Rattle.searches.specs.SearchAnswers.{search-refused, search-answered}
-use Rattle.searches.specs.Pools.{untouched}
 use borrow.Author.Needs.{needs}
 use Rattle.searches.proofs.search.Statement.{statement}
 use Rattle.searches.proofs.search.Tie as tie
@@ -21,25 +20,27 @@ same-length c = search needs
 returns : tie.Need-returns
 returns c = (search-refused _ _ _ _ _ (search (of-pool)) (c .if1 .taken), refl)
 
-search-requires : tie.Need-search-requires
-search-requires c κs =
-    let accepted = c .before .before .before .before .accept in
-    let none = c .before .before .if1 .left in
-    let code = of-pool _ _ _ _ _ _ (accepted .ensures .0) (c .before .before .before .before .before .capacity .ensures) in
-    to-search _ _ _ _ (limitsOf (c .before .before .before .before .before .before .before .before .before .args .l)) (accepted .ensures .1 none) (sym code ∙ none)
+search-accepted-requires : tie.Need-search-accepted-requires
+search-accepted-requires c κs =
+    let passed = c .before .before in
+    let accepted = passed .before .before in
+    let start = accepted .before .before .before .before .before in
+    (_, passed-all _ (limitsOf (start .args .l)) (accepted .accept .ensures .0) (accepted .before .capacity .ensures) (passed .if1 .left) (accepted .accept .ensures .1 (passed .if1 .left)))
 
 same-length-2 : tie.Need-same-length-2
 same-length-2 c = search needs
 
 returns-2 : tie.Need-returns-2
 returns-2 c =
-    let accepted = c .before .before .before .before .before .before .before .accept in
-    let none = c .before .before .before .before .before .if1 .left in
-    let code = of-pool _ _ _ _ _ _ (accepted .ensures .0) (c .before .before .before .before .before .before .before .before .capacity .ensures) in
-    let args = c .before .before .before .before .before .before .before .before .before .before .before .before .args in
-    let done = c .before .before .search in
-    let result = done .ensures _ (accepted .ensures .1 none) (loads-accepted _ (loads _ (accepts _ _ _ (limitsOf (args .l)) (sym code ∙ none) .loads))) in
-    (sym (search-answered _ _ _ _ (sym code ∙ none) _ (sym (result .result-is))), untouched (args .words .now) (done .last .0) (done .kept .0) (result .past))
+    let done = c .before .before in
+    let passed = done .before .before .before in
+    let accepted = passed .before .before in
+    let start = accepted .before .before .before .before .before in
+    let all = passed-all (length (start .args .words .now)) (limitsOf (start .args .l)) (accepted .accept .ensures .0) (accepted .before .capacity .ensures) (passed .if1 .left)
+    (accepted .accept .ensures .1 (passed .if1 .left)) in
+    (sym (search-answered _ _ _ _ (all .none) _ (sym (done .search-accepted .ensures .0 _ all))), done .search-accepted .ensures .1)
 
 pub search-spec : {M : Type 1} → statement M
-search-spec = tie.close (tie.spec capacity-requires accept-requires same-length returns search-requires same-length-2 returns-2)
+search-spec =
+    tie.close
+    (tie.spec capacity-requires accept-requires same-length returns search-accepted-requires same-length-2 returns-2)
