@@ -64,7 +64,7 @@ pub struct Parent {
     pub and: bool,
 }
 
-// One child more, listed first.
+// One child more, listed first. In a search the sum of phi is never held here (machine/specs/Unheld.antt, reached-unheld).
 fn add_child(words: &mut [u32], m: Made, mv: Move, value: Evaluation, and: bool) -> Made
     requires { ⌜ Addable (now words) m (mv .0) (verdict value) and ⌝ }
     ensures { λ r. ⌜ Adds (now (words .entry)) m (mv .0) (verdict value) and (now (words .exit)) r ⌝ }
@@ -126,7 +126,7 @@ fn open_phi(phi: u32, more: u32) -> u32
     prove::least(phi, 1)
 }
 
-// The numbers of the children that there were with those of the open ones.
+// The numbers of the children that there were with those of the open ones: again a sum that no search has held.
 fn open_numbers(m: Made, t: Opened) -> Made
     requires { ⌜ m .made ≤ t .made ⌝ }
     ensures { λ r. ⌜ r ≡ counting t m ⌝ }

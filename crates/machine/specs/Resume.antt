@@ -21,7 +21,8 @@ module _ (G : Game) (P : Policy G) (S : Settings) where
       other : (c : ℕ) (t : State (G .Pos)) → run G P S (suc j) s ≡ (t, c) → (c ≡ 1 → ⊥) → run G P S (suc j + k) s ≡ run G P S k (run G P S (suc j) s .0)
       other c t q n = absurd (n (sym (ap (λ (x : State (G .Pos) × ℕ). x .1) q) ∙ e))
 
-      go : Course G P S s → (run G P S j (round G P s) .1 ≡ 1 → run G P S (j + k) (round G P s) ≡ run G P S k (run G P S j (round G P s) .0)) → run G P S (suc j + k) s ≡ run G P S k (run G P S (suc j) s .0)
+      go : Course G P S s → (run G P S j (round G P s) .1 ≡ 1 → run G P S (j + k) (round G P s) ≡ run G P S k (run G P S j (round G P s) .0))
+          → run G P S (suc j + k) s ≡ run G P S k (run G P S (suc j) s .0)
       go (at-end q) f = other 0 s (run-solved G P S j s q) (λ z. omega arith)
       go (lacking q t) f = other 2 (toLeaf G P s) (run-short G P S j s q t) (λ z. omega arith)
       go (stopped q t o) f = other 3 (round G P s) (run-over G P S j s q t o) (λ z. omega arith)

@@ -38,6 +38,10 @@ pub record Looping (p : Position) (s : Settings) (w v path ps : List ℕ) (x : R
   pub going : Going p s v path ps x
   pub past : Beyond w v
 
+-- it has stopped, whichever position it was begun with
+abbrev pub Ran : (w path ps : List ℕ) (x : Running) (s : Settings) (attacker : ℕ) (v path′ ps′ : List ℕ) (r : Running) → Type 0
+Ran w path ps x s attacker v path′ ps′ r = (r .stop ≡ true) × ((g : Steppable w path ps x s attacker) → Looping (g .start) s w v path′ ps′ r)
+
 -- the loop, for whichever position it was begun with
 pub record Loop (w path₀ ps₀ : List ℕ) (x₀ : Running) (s : Settings) (root : ℕ) (v path ps todo : List ℕ) (x : Running) : Type 0 where
   pub from : Steppable w path₀ ps₀ x₀ s root

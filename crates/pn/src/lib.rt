@@ -20,7 +20,7 @@ ghost use Rattle.pn.specs.Beginning.{Startable, Begun};
 ghost use Rattle.pn.specs.Ticked.{Ticked};
 ghost use Rattle.pn.specs.Rounding.{AtLeaf, Short};
 ghost use Rattle.pn.specs.Stepping.{Steppable, Unsolved, Stepped};
-ghost use Rattle.pn.specs.Searches.{Searchable, Searched, Looping};
+ghost use Rattle.pn.specs.Searches.{Searchable, Searched, Ran};
 use game::Game;
 use game::Move;
 use node_pool::NO_NODE;
@@ -277,7 +277,7 @@ pub fn run(
     requires room { ⌜ length (now todo) ≡ plies ⌝ }
     requires { ⌜ (now table ≡ lineTable) × Steppable (now words) (now path) (now positions) x s attacker ⌝ }
     ensures room { λ _. ⌜ length (now (todo .exit)) ≡ plies ⌝ }
-    ensures { λ r. ⌜ (r .stop ≡ true) × ((g : Steppable (now (words .entry)) (now (path .entry)) (now (positions .entry)) x s attacker) → Looping (g .start) s (now (words .entry)) (now (words .exit)) (now (path .exit)) (now (positions .exit)) r) ⌝ }
+    ensures { λ r. ⌜ Ran (now (words .entry)) (now (path .entry)) (now (positions .entry)) x s attacker (now (words .exit)) (now (path .exit)) (now (positions .exit)) r ⌝ }
 {
     let mut y = x;
     while !y.stop {

@@ -73,7 +73,7 @@ impl Bounds {
     }
 }
 
-// The sum, held at the largest number.
+// The sum, held at the largest number. No search of an accepted position comes to that (plain/specs/Unheld.antt).
 pub fn held_sum(a: u32, b: u32) -> u32
     ensures { λ r. ⌜ r ≡ min (a + b) u32-max ⌝ }
 {

@@ -11,10 +11,13 @@ use Rattle.rules.specs.Checks.{loads, loads-accepted}
 use Rattle.rules.specs.RefusalLaws.{none-refuses}
 use Rattle.game.specs.Words.{Holds}
 use Rattle.machine.specs.Reached.{PoolInRange}
+use Rattle.plain.specs.Plain.{plainSearch}
 use Rattle.pn.specs.Searches.{Searchable}
+use Rattle.pn.specs.Results.{resultOf}
+use Rattle.pn.specs.declared.SearchResult.{SearchResult}
 use Rattle.calls.specs.Calls.{lastRule}
 use Rattle.calls.specs.Refusing.{passes-test}
-use Rattle.searches.specs.Searches.{Limits, intervalLeast, intervalMost, budgetMost, nodes, settings, searchRefusal}
+use Rattle.searches.specs.Searches.{Limits, intervalLeast, intervalMost, budgetMost, nodes, settings, searchRefusal, Untouched}
 
 pub record Accepts (bytes : List ℕ) (words rule : ℕ) (L : Limits) : Type 0 where
   pub loads : refusal bytes ≡ 0
@@ -44,7 +47,8 @@ accepts bytes words rule L e =
     }
 
 -- the checks of a pool whose capacity has been counted
-pub of-pool : (bytes : List ℕ) (capacity words rule : ℕ) (L : Limits) (n : ℕ) → n ≡ searchRefusal bytes capacity rule L → capacity ≡ nodes words → n ≡ searchRefusal bytes (nodes words) rule L
+pub of-pool : (bytes : List ℕ) (capacity words rule : ℕ) (L : Limits) (n : ℕ) → n ≡ searchRefusal bytes capacity rule L → capacity ≡ nodes words
+    → n ≡ searchRefusal bytes (nodes words) rule L
 of-pool bytes capacity words rule L n e q = rw (e, q)
 
 -- every check is passed, and the words g hold the record's position
@@ -63,6 +67,11 @@ module _ {bytes g : List ℕ} {rule : ℕ} (words : ℕ) (L : Limits) where
 pub passed-rule : {bytes g : List ℕ} {words words′ : ℕ} {L : Limits} (rule : ℕ) → rule ≤ lastRule → words′ ≡ words → Passed bytes g words 0 L → Passed bytes g words′ rule L
 unfolding searchRefusal
 passed-rule rule l e h = record { holds = h .holds; none = rw (le-ltb lastRule rule l, e) (h .none) }
+
+-- a search of the position that passed: the plain machine's result, and the words past the capacity as they were
+abbrev pub SearchesPassed : (g : List ℕ) (rule : ℕ) (L : Limits) (w v : List ℕ) (r : SearchResult) → Type 0
+SearchesPassed g rule L w v r =
+    ((bytes : List ℕ) → Passed bytes g (length w) rule L → resultOf r ≡ plainSearch rule (settings (length w) L) bytes) × Untouched w v
 
 -- what the search asks for, once every check is passed
 pub to-search : (bytes g w : List ℕ) (rule : ℕ) (L : Limits) → Passed bytes g (length w) rule L

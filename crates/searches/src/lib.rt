@@ -8,12 +8,10 @@ ghost use Rattle.rules.specs.Record.{positionOf};
 ghost use Rattle.game.specs.Words.{Holds};
 ghost use Rattle.machine.specs.Machine.{Result};
 ghost use Rattle.prove.specs.Numbers.{verdict};
-ghost use Rattle.plain.specs.Plain.{plainSearch};
-ghost use Rattle.pn.specs.Results.{resultOf};
-ghost use Rattle.searches.specs.Searches.{settings, searchRefusal, searchCall, Untouched, PoolAfter, fullOf, fullCall, PoolAfterFull};
+ghost use Rattle.searches.specs.Searches.{searchRefusal, searchCall, PoolAfter, fullOf, fullCall, PoolAfterFull};
 ghost use Rattle.searches.specs.Searches.{Answered as answers};
 ghost use Rattle.searches.specs.Answers.{limitsOf, searched, fullVerdict, judged};
-ghost use Rattle.searches.specs.Accepting.{Passed};
+ghost use Rattle.searches.specs.Accepting.{Passed, SearchesPassed};
 ghost use Rattle.searches.specs.ThirdCondition.{ThirdCondition};
 use calls::LAST_RULE;
 use calls::refusals;
@@ -72,7 +70,7 @@ pub fn accept(bytes: &[u8], nodes: usize, rule: u64, l: SearchLimits) -> Loaded
 // Searches an accepted record's position in the lent pool.
 fn search_accepted(start: Game, words: &mut [u32], rule: u64, l: SearchLimits) -> SearchResult
     requires { ⌜ ((bytes : List ℕ) × Passed bytes (start .words) (length (now words)) rule (limitsOf l)) ⌝ }
-    ensures { λ r. ⌜ ((bytes : List ℕ) → Passed bytes (start .words) (length (now (words .entry))) rule (limitsOf l) → resultOf r ≡ plainSearch rule (settings (length (now (words .entry))) (limitsOf l)) bytes) × Untouched (now (words .entry)) (now (words .exit)) ⌝ }
+    ensures { λ r. ⌜ SearchesPassed (start .words) rule (limitsOf l) (now (words .entry)) (now (words .exit)) r ⌝ }
 {
     let s = Settings {
         rule,

@@ -17,16 +17,20 @@ loop-holds c = loops.loop-start _ _ _ _ _ _ _ (c .before .pre .0) (c .before .pr
 
 step-requires : tie.Need-step-requires Inv-loop μ-loop
 step-requires c κs =
-    let l = c .before .before .before .before .before .before .loop .inv in
-    (l .room, (c .before .before .before .before .before .before .before .before .pre .1 .0, loops.loop-step _ _ _ _ _ l (not-true _ (c .before .before .before .before .if1 .taken))))
+    let turn = c .before .before .before .before in
+    let at = turn .before .before in
+    (at .loop .inv .room, (at .before .before .pre .1 .0, loops.loop-step _ _ _ _ _ (at .loop .inv) (not-true _ (turn .if1 .taken))))
 
 loop-less : tie.Need-loop-less Inv-loop μ-loop
-loop-less c = loops.loop-less _ _ _ _ _ (c .before .before .before .before .before .before .before .before .before .loop .inv) (not-true _ (c .before .before .before .before .before .before .before .if1 .taken)) _ _ _ _ (c .before .before .step .ensures .1)
+loop-less c =
+    let turn = c .before .before .before .before .before .before .before in
+    loops.loop-less _ _ _ _ _ (turn .before .before .loop .inv) (not-true _ (turn .if1 .taken)) _ _ _ _ (c .before .before .step .ensures .1)
 
 loop-again : tie.Need-loop-again Inv-loop μ-loop
 loop-again c =
+    let turn = c .before .before .before .before .before .before .before in
     let r = c .before .before .step in
-    loops.loop-next _ _ _ _ _ (c .before .before .before .before .before .before .before .before .before .loop .inv) (not-true _ (c .before .before .before .before .before .before .before .if1 .taken)) _ _ _ _ (r .ensures .1) _ (r .kept .1 .0) (r .ensures .0)
+    loops.loop-next _ _ _ _ _ (turn .before .before .loop .inv) (not-true _ (turn .if1 .taken)) _ _ _ _ (r .ensures .1) _ (r .kept .1 .0) (r .ensures .0)
 
 same-length : tie.Need-same-length Inv-loop μ-loop
 same-length c = c .before .before .loop .inv .long
