@@ -1,5 +1,5 @@
--- What each call answers and what it leaves in the lent bytes, as one function of what comes in. The checks stand in the order of the table under
--- 'Turned back', and a refusal leaves every byte as it was. Rests on the rules, their record, the value of a record and check 16's count.
+-- What each call answers and what it leaves in the lent bytes, as one function of what comes in. The checks stand in their order (MANUAL, Calls;
+-- Turned back), and a refusal leaves every byte as it was. Rests on the rules, their record, the value of a record and check 16's count.
 use mathlib.Core.Bool.{cond}
 use mathlib.Core.List.{List, [], _∷_, _++_}
 use Prim.Native.Nat.{ℕ, zero, suc}

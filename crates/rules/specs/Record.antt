@@ -1,4 +1,4 @@
--- The record (MANUAL, Record): its 21 bytes by bits, checks 1 to 6 of the table under 'Turned back', and the record of a position. Rests on Rules and Refusals.
+-- The record (MANUAL, Record): its 21 bytes by bits, checks 1 to 6 (MANUAL, Turned back), and the record of a position. Rests on Rules and Refusals.
 use mathlib.Core.Bool.{Bool, cond, not, _&&_, _||_}
 use mathlib.Core.List.{List, [], _∷_}
 use mathlib.Core.Path.{_≡_}

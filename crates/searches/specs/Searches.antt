@@ -1,5 +1,5 @@
--- What search and full verdict answer and what they leave in the pool, as functions of what comes in. The checks come in the order of the table under
--- 'Turned back'. Rests on the record's checks and on the plain machine of a record.
+-- What search and full verdict answer and what they leave in the pool, as functions of what comes in. The checks stand in their order (MANUAL, Calls;
+-- Turned back). Rests on the record's checks and on the plain machine of a record.
 use mathlib.Core.Path.{_≡_}
 use mathlib.Core.List.{List, [], _∷_}
 use Prim.Native.Nat.{ℕ, _*_, _/_}

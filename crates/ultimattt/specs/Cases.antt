@@ -1,4 +1,4 @@
--- The cases of document 01 that are proved from the definitions, in one lemma, with ours. Rests on Calls and Searches, and on plain's
+-- The cases of MANUAL, Positions to try, that are proved from the definitions, in one lemma, with ours. Rests on Calls and Searches, and on plain's
 -- Cases for the records E, W and D and for the plain machine's results.
 use mathlib.Core.Path.{_≡_, refl}
 use mathlib.Core.List.{List, [], _∷_, _++_}
@@ -39,7 +39,7 @@ under-each : (bytes : List ℕ) (words : ℕ) (L : Limits) (r : Result) → sear
     → plain-cases.UnderEach (settings words L) bytes r → UnderEach bytes words L r
 under-each bytes words L r e0 e1 e2 h = (search-answered bytes words 0 L e0 r (h .0), search-answered bytes words 1 L e1 r (h .1), search-answered bytes words 2 L e2 r (h .2))
 
--- Each field is a case; moves and records are hexadecimal in document 01.
+-- Each field is a case; moves and records are hexadecimal, as in the manual.
 pub record Cases : Type 0 where
   -- E: 81 moves, first 00, last 88
   pub E-count : movesCall E out81 .count ≡ 81
