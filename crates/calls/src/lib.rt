@@ -50,15 +50,15 @@ pub enum Refereed {
     Declined(u8),
 }
 
-// Moves made one after the other: the result of the last one tried, its index, and the position that was reached.
+// Moves made one after the other: the result of the last one tried, how many were made (a bad one has that index), and the position after them.
 pub struct Line {
     pub result: MoveResult,
-    pub index: usize,
+    pub count: usize,
     pub game: Game,
 }
 
 // Makes the moves, up to the first bad one.
-fn play_line(table: &[u8; 512], start: Game, moves: &[u8]) -> Line
+pub fn play_line(table: &[u8; 512], start: Game, moves: &[u8]) -> Line
     requires { ⌜ (now table ≡ lineTable) × Held (start .words) 0 ⌝ }
     ensures { λ r. ⌜ ((p : Position) → Holds p (start .words) 0 → Played p (now (moves .entry)) r) ⌝ }
 {
@@ -71,7 +71,7 @@ fn play_line(table: &[u8; 512], start: Game, moves: &[u8]) -> Line
         if let MoveResult::Err(_) = result {
             return Line {
                 result,
-                index: i,
+                count: i,
                 game,
             };
         }
@@ -79,7 +79,7 @@ fn play_line(table: &[u8; 512], start: Game, moves: &[u8]) -> Line
     }
     Line {
         result: MoveResult::Ok,
-        index: 0,
+        count: i,
         game,
     }
 }
@@ -118,7 +118,7 @@ fn replay_from(start: Game, moves: &[u8], out: &mut [u8]) -> Replayed
             record::store(out, game);
             Replayed::Done
         }
-        MoveResult::Err(e) => Replayed::BadMove(e, line.index),
+        MoveResult::Err(e) => Replayed::BadMove(e, line.count),
     }
 }
 

@@ -36,7 +36,7 @@ module _ (p : Position) (m : ℕ) where
       rw (e, f, code-states (p .cells) (boardOf m) (ltb-true (boardOf m) 9 (both-true (ltb (boardOf m) 9) (ltb (cellOf m) 9) e .0)))
 
 -- an error's number is not 0
-error-number : (e : MoveError) → errorNumber e ≡ 0 → ⊥
+pub error-number : (e : MoveError) → errorNumber e ≡ 0 → ⊥
 error-number OutOfBounds q = omega arith
 error-number GameOver q = omega arith
 error-number WonBoard q = omega arith

@@ -1,19 +1,18 @@
 -- The laws that the machine asks of a game and of its policy, for every rule and root side; what an accepted position adds; and what N counts.
 -- Rests on Plain and the laws of rules.
 use mathlib.Core.Path.{_≡_, refl, ap, _∙_, subst}
-use mathlib.Core.Bool.{Bool, true, false, not}
+use mathlib.Core.Bool.{true, not}
 use mathlib.Core.List.{List, [], _∷_, foldr, List·Memᴰ, List·Memᴰ·not-nil}
 use mathlib.Core.Logic.{_↔_}
 use Prim.Native.Nat.{ℕ, zero, suc, _+_, _≤_, _<_}
 use native.Mathlib.Omega.{arith}
-use borrow.Author.Tests.{eqb-true}
-use lib.Dec.{eqb}
 use lib.ListN.{length}
-use Rattle.rules.specs.Rules.{Player, Position, other, same, gameState, legalMoves, play, count, moveError, replay, Replayed, Reached, BadMove}
+use Rattle.rules.specs.Rules.{Player, Position, other, same, gameState, legalMoves, play, count, replay, Reached}
 use Rattle.rules.specs.Rules.Player.{X, O}
 use Rattle.rules.specs.Record.{Accepted}
 use Rattle.rules.specs.LegalMoves.{Ascending, ascending, in-legal, legal-in, finished-none, unfinished-some}
 use Rattle.rules.specs.Plays.{turn-passes, one-less, count-length}
+use Rattle.rules.specs.Replays.{good-move, first-good}
 use Rattle.machine.specs.Game.{backward, sequences}
 use Rattle.machine.specs.Tree.{Node, Children}
 use Rattle.machine.specs.Machine.{firstWith, standard}
@@ -93,16 +92,13 @@ sequences-listed rule root p = sequences-list (game rule root) (lawful rule root
 
 -- The sequences that N counts are the lists of moves that replay makes.
 pub legal-replay : (rule : ℕ) (root : Player) (p : Position) (ms : List ℕ) (i : ℕ) → Legal (game rule root) p ms → (q : Position) × (replay p ms i ≡ Reached q)
-unfolding replay
-legal-replay rule root p [] i h = (p, refl)
-legal-replay rule root p (m ∷ ms) i h = rw (in-legal p m (h .0), replay) (legal-replay rule root (play p m) ms (suc i) (h .1))
+legal-replay rule root p [] i h = (p, unfold replay in refl)
+legal-replay rule root p (m ∷ ms) i h =
+    let r = legal-replay rule root (play p m) ms (suc i) (h .1) in
+    (r .0, good-move p m ms i (in-legal p m (h .0)) ∙ r .1)
 
 pub replay-legal : (rule : ℕ) (root : Player) (p : Position) (ms : List ℕ) (i : ℕ) (q : Position) → replay p ms i ≡ Reached q → Legal (game rule root) p ms
-unfolding replay
 replay-legal rule root p [] i q e = tt
-replay-legal rule root p (m ∷ ms) i q e = go (eqb (moveError p m) 0) refl e (λ h. replay-legal rule root (play p m) ms (suc i) q h)
-  where
-    go : (t : Bool) → eqb (moveError p m) 0 ≡ t → _≡_ {A = Replayed} (elim t [ true ↦ replay (play p m) ms (suc i) | false ↦ BadMove (moveError p m) i ]) (Reached q)
-        → (replay (play p m) ms (suc i) ≡ Reached q → Legal (game rule root) (play p m) ms) → List·Memᴰ m (legalMoves p) × Legal (game rule root) (play p m) ms
-    go true t h k = (legal-in p m (eqb-true (moveError p m) 0 t), k h)
-    go false t h k = let z : _≡_ {A = ℕ} 0 1 = cc in absurd (omega arith)
+replay-legal rule root p (m ∷ ms) i q e =
+    let f = first-good p m ms i q e in
+    (legal-in p m (f .0), replay-legal rule root (play p m) ms (suc i) q (f .1))

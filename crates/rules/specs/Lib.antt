@@ -11,6 +11,7 @@ pub mod States
 pub mod Checks
 pub mod LegalMoves
 pub mod Plays
+pub mod Replays
 pub mod Bits
 pub mod Roundtrip
 pub mod Cases

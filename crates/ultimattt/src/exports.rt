@@ -2,10 +2,11 @@
 
 ghost use mathlib.Core.Path.{_≡_};
 ghost use Prim.Native.Nat.{ℕ};
-ghost use lib.ListN.{length};
+ghost use lib.ListN.{length, take};
 ghost use Rattle.game.specs.Numbers.{errorNumber};
 ghost use Rattle.pn.specs.Results.{resultOf};
 ghost use Rattle.calls.specs.Calls.{replayOutcome, movesOutcome, refereeOutcome, replayCall, movesCall, refereeCall};
+ghost use Rattle.sheets.specs.Sheets.{sheetsOutcome, sheetsCall};
 ghost use Rattle.searches.specs.Searches.{limits, searchCall, PoolAfter, fullCall, PoolAfterFull};
 ghost use Rattle.searches.specs.Answers.{fullVerdict};
 ghost use Rattle.ultimattt.specs.Exports.{fields, fieldsOf, noFields, searchNumbers, searchedNumbers, fullNumber, fullNumbers, judgedNumbers};
@@ -109,6 +110,21 @@ pub extern "C" fn uttt_referee(bytes: &[u8], rule: u64) -> RefereeAnswer
             value: 0,
         },
     }
+}
+
+// The agreed opening of two sheets as C has it: how many moves of the first sheet it is, from its front on. The number, 0 or 7, goes into the lent one.
+#[no_mangle]
+pub extern "C" fn uttt_agreed_opening(
+    first: &[u8],
+    second: &[u8],
+    out: &mut [u8],
+    number: &mut u32,
+) -> u64
+    ensures { λ r. ⌜ sheetsOutcome (take r (now (first .entry))) (now (number .exit)) (now (out .exit)) ≡ sheetsCall (now (first .entry)) (now (second .entry)) (now (out .entry)) ⌝ }
+    ensures count { λ r. ⌜ r ≡ length (sheetsCall (now (first .entry)) (now (second .entry)) (now (out .entry)) .part) ⌝ }
+{
+    let part = sheets::agreed_opening(first, second, out, number);
+    part.len() as u64
 }
 
 // The nine fields of a result as C has them: verdict is 0 Unknown, 1 True, 2 False.

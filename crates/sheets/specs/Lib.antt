@@ -1,0 +1,5 @@
+pub mod Sheets
+pub mod AgreedOpening
+pub mod Beginnings
+pub mod Openings
+pub mod Cases
