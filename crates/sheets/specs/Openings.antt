@@ -137,3 +137,11 @@ pub part-called : (first second out : List ℕ) (n : ℕ) (x : SheetsOutcome) �
 unfolding sheetsCall opening partCall
 part-called first second out n x e q =
     q ∙ ap (λ (l : List ℕ). partCall l out) (ap (λ (k : ℕ). take k first) e ∙ begins-take (common first second) first (common-begins first second .0))
+
+-- the part by its length, as C has it: so many moves of the first sheet
+pub part-counted : (first second out part : List ℕ) (n : ℕ) (out′ : List ℕ) → sheetsOutcome part n out′ ≡ sheetsCall first second out
+    → (sheetsOutcome (take (length part) first) n out′ ≡ sheetsCall first second out) × (length part ≡ length (sheetsCall first second out .part))
+part-counted first second out part n out′ e =
+    let same : part ≡ sheetsCall first second out .part = ap (λ (r : SheetsOutcome). r .part) e in
+    let begins : Begins part first = rw same (agreed-opening first second out .begins-first) in
+    (rw (begins-take part first begins) e, ap length same)
