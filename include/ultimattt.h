@@ -4,8 +4,9 @@
  *
  * Buffers. A buffer is a pointer and a length: bytes for records, moves and outputs, 32-bit words for a pool. All of
  * them are the caller's: the library allocates nothing, frees nothing and keeps no pointer after a call. A buffer that
- * is written (output, pool) may not overlap another buffer of the same call; record and moves are only read. What an
- * output or a pool held before decides nothing: neither need be cleared. A pool is aligned as uint32_t is.
+ * is written (output, pool) may not overlap another buffer of the same call; record and moves are only read, and two
+ * lists of moves may be the same memory. What an output or a pool held before decides nothing: neither need be cleared.
+ * A pool is aligned as uint32_t is.
  *
  * Length 0. The pointer is not followed and may be null. A record of length 0 is refused with 1, an output with 7, a
  * pool with 8; no moves is a list like any other. A null pointer with another length is the caller's error.
@@ -14,16 +15,21 @@
  * do. With a refusal no byte of any buffer is written and every other field but index is 0, so that verdict and cause
  * then mean nothing. index is the place, from 0, of the bad move with codes 11 to 15, and 0 elsewhere.
  *
- * Threads. The library has no variables: a call reads and writes its buffers and its own stack alone. Threads may call
- * at once if no buffer that one of them writes is used by another.
+ * uttt_agreed_opening returns a length and no struct: its code goes to the uint32_t that the caller lends as number.
+ * That is no buffer but the call's answer: it is written always, with a refusal too, and never read. The pointer may
+ * not be null, is aligned as uint32_t is, and may not point into a buffer of the call.
+ *
+ * Threads. The library has no variables: a call reads and writes what it is lent and its own stack alone. Threads may
+ * call at once if nothing that one of them writes is used by another.
  *
  * Time and stack. No call can be interrupted; the budget bounds a search, and the referee takes small endings only.
  * Where it was measured, each call used less than 12 KiB of stack, some 2 KiB of which the dynamic linker took to look
  * memset up at the first search; pool and budget make no difference to that.
  *
  * Proofs. docs/PROMISES.md says what is proved of each call, for every record, move list, pool and setting. Of a C
- * caller the proofs assume that every pointer is valid for its length and aligned, and that no buffer that is written
- * overlaps another. What stands above about threads, time and stack was measured or read off the archive, not proved.
+ * caller the proofs assume that every pointer is valid for its length (number for one uint32_t) and aligned, and that
+ * nothing that is written overlaps anything else of the call. What stands above about threads, time and stack was
+ * measured or read off the archive, not proved.
  */
 #ifndef ULTIMATTT_H
 #define ULTIMATTT_H
@@ -46,7 +52,7 @@ extern "C" {
 /* An output for legal moves has room for so many, whatever the position. */
 #define UTTT_MOVES_BYTES 81
 
-/* code: UTTT_OK or why a call was refused. */
+/* code, and the number of uttt_agreed_opening: UTTT_OK or why a call was refused. */
 enum uttt_code {
     UTTT_OK = 0,
     UTTT_RECORD_LENGTH = 1,     /* the record is not 21 bytes long */
@@ -55,7 +61,7 @@ enum uttt_code {
     UTTT_BOARD_WON_TWICE = 4,   /* a board with lines of both sides */
     UTTT_GAME_WON_WRONGLY = 5,  /* both sides have a line of boards, or the side to move has one */
     UTTT_TARGET_DONE = 6,       /* the target is a won or drawn board */
-    UTTT_OUTPUT_SHORT = 7,      /* replay: output below 21 bytes; legal moves: below 81 */
+    UTTT_OUTPUT_SHORT = 7,      /* output below 21 bytes (replay, agreed opening) or below 81 (legal moves) */
     UTTT_POOL_EMPTY = 8,        /* the pool has less than one node */
     UTTT_POOL_TOO_LARGE = 9,    /* the pool has more than 16,777,216 nodes */
     UTTT_SETTING_RANGE = 10,    /* the rule, the interval or the budget is out of its range */
@@ -178,6 +184,17 @@ struct uttt_moves_answer uttt_legal_moves(const uint8_t *record, size_t record_l
 
 /* The value of a small ending, by going through everything that can follow. rule is 0 to 2. */
 struct uttt_referee_answer uttt_referee(const uint8_t *record, size_t record_length, uint64_t rule);
+
+/*
+ * The agreed opening of two sheets of one game, each a list of moves: the longest beginning that both have and that is
+ * legal, move after move, from the empty game. Returns its length, n: it is the first n moves of first. Writes the
+ * record after it to the first 21 bytes of output; the others are left alone. A difference, a bad move (a move after
+ * the game's end is one) and the end of a sheet end the opening; none of them is a refusal. An empty opening leaves the
+ * empty game's record. number gets UTTT_OK, or UTTT_OUTPUT_SHORT, and then 0 is returned.
+ */
+uint64_t uttt_agreed_opening(const uint8_t *first, size_t first_length,
+                             const uint8_t *second, size_t second_length,
+                             uint8_t *output, size_t output_length, uint32_t *number);
 
 /*
  * Searches the record's position under a rule. After every interval-th expansion more than limit live nodes end the
