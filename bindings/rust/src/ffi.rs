@@ -75,6 +75,16 @@ extern "C" {
 
     pub fn uttt_referee(record: *const u8, record_length: usize, rule: u64) -> RefereeAnswer;
 
+    pub fn uttt_agreed_opening(
+        first: *const u8,
+        first_length: usize,
+        second: *const u8,
+        second_length: usize,
+        output: *mut u8,
+        output_length: usize,
+        number: *mut u32,
+    ) -> u64;
+
     pub fn uttt_search(
         record: *const u8,
         record_length: usize,

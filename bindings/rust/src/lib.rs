@@ -129,6 +129,46 @@ pub fn referee(record: &[u8], rule: Rule) -> Result<bool, Refusal> {
     }
 }
 
+/// The agreed opening of two sheets of one game, and the record after it.
+///
+/// Sheets are lists of moves. The opening is the longest beginning that both have and that is legal, move after move,
+/// from the empty game; it is that part of the first sheet itself. A difference, a bad move (a move after the game's end
+/// is one) and the end of a sheet end it, so it may be empty; none of them is a refusal.
+///
+/// ```
+/// use ultimattt::{agreed_opening, replay, EMPTY_GAME};
+///
+/// let (opening, record) = agreed_opening(&[0x44, 0x40, 0x04], &[0x44, 0x40, 0x05]);
+/// assert_eq!(opening, [0x44, 0x40]);
+/// assert_eq!(replay(&EMPTY_GAME, opening), Ok(record));
+/// ```
+pub fn agreed_opening<'a>(first: &'a [u8], second: &[u8]) -> (&'a [u8], Record) {
+    let mut output = [0; RECORD_BYTES];
+    let opening = agreed_opening_into(first, second, &mut output).expect("an output of 21 bytes is not refused");
+    (opening, output)
+}
+
+/// Gives the agreed opening and writes the record after it to the first 21 bytes of the output; the others are left
+/// alone. A shorter output is refused with [`Refusal::OutputShort`], and nothing else is.
+pub fn agreed_opening_into<'a>(first: &'a [u8], second: &[u8], output: &mut [u8]) -> Result<&'a [u8], Refusal> {
+    // No answer's code: the call writes over it, with a refusal too.
+    let mut number = u32::MAX;
+    // SAFETY: the three slices are valid for their lengths, and a &mut, the number's too, overlaps nothing.
+    let length = unsafe {
+        ffi::uttt_agreed_opening(
+            first.as_ptr(),
+            first.len(),
+            second.as_ptr(),
+            second.len(),
+            output.as_mut_ptr(),
+            output.len(),
+            &mut number,
+        )
+    };
+    Refusal::check(number, 0)?;
+    Ok(&first[..length as usize])
+}
+
 /// Searches the position under a rule.
 pub fn search(record: &[u8], pool: &mut Pool, rule: Rule, s: &Settings) -> Result<SearchResult, Refusal> {
     let words = pool.words_mut();

@@ -80,12 +80,13 @@ fn c_structs(text: &str) -> Declared {
     names.iter().map(|name| (name.to_string(), fields(name))).collect()
 }
 
-/// A type of the library as C sees it: a slice is a pointer and a length.
+/// A type of the library as C sees it: a slice is a pointer and a length, a lent number a pointer.
 fn passed(kind: &str) -> Vec<String> {
     let (pointer, of) = match kind {
         "&[u8]" => ("*const", "u8"),
         "&mut [u8]" => ("*mut", "u8"),
         "&mut [u32]" => ("*mut", "u32"),
+        "&mut u32" => return vec!["*mut u32".to_string()],
         _ => return vec![kind.to_string()],
     };
     vec![format!("{pointer} {of}"), "usize".to_string()]
@@ -125,7 +126,7 @@ fn structs() {
 #[test]
 fn functions() {
     let library = rust_functions(LIBRARY, "pub extern \"C\" fn ");
-    assert_eq!(library.len(), 5);
+    assert_eq!(library.len(), 6);
     assert_eq!(rust_functions(WRAPPER, "pub fn "), library);
     assert_eq!(c_functions(&header()), library);
 }

@@ -2,8 +2,8 @@
 
 mod common;
 
-use common::{budget, d, pool, record, w, E, FREE_CHOICE};
-use ultimattt::{full_verdict, legal_moves, referee, replay, search};
+use common::{budget, bytes, d, pool, record, w, E, FREE_CHOICE, G};
+use ultimattt::{agreed_opening, full_verdict, legal_moves, referee, replay, search};
 use ultimattt::{Cause, FullVerdict, Pool, Refusal, Rule, Settings, Verdict};
 
 const RULES: [Rule; 3] = [Rule::DrawLostByMover, Rule::DrawFalse, Rule::DrawTrue];
@@ -29,6 +29,24 @@ fn replays_of_the_empty_game() {
     assert_eq!(replay(&E, &[0x44, 0x44]), Err(Refusal::NotEmpty(1)));
     assert_eq!(replay(&E, &[0x44, 0x00]), Err(Refusal::WrongBoard(1)));
     assert_eq!(replay(&E, &[0x09]), Err(Refusal::OutOfBounds(0)));
+}
+
+#[test]
+fn sheets_of_the_empty_game() {
+    let after_two = record("000000000000000000040200000000000000000000");
+    assert_eq!(agreed_opening(&[0x44, 0x40, 0x04], &[0x44, 0x40, 0x05]), (&[0x44, 0x40][..], after_two));
+    let after_one = record("A00000000000000000000200000000000000000000");
+    assert_eq!(agreed_opening(&[0x44, 0x44], &[0x44, 0x44]), (&[0x44][..], after_one));
+    assert_eq!(agreed_opening(&[0x09], &[0x09]), (&[][..], E));
+    assert_eq!(agreed_opening(&[], &[0x44]), (&[][..], E));
+}
+
+#[test]
+fn sheets_that_go_on_after_the_end() {
+    let game = bytes(G);
+    let longer = [&game[..], &[0x40]].concat();
+    let won = record("A0002A001001004208202440000043221040040020");
+    assert_eq!(agreed_opening(&longer, &longer), (&game[..], won));
 }
 
 #[test]

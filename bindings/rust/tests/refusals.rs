@@ -3,7 +3,7 @@
 mod common;
 
 use common::{d, pool, w, x_to_move, E, FREE_CHOICE, O, X};
-use ultimattt::{full_verdict, legal_moves_into, referee, replay, replay_into, search};
+use ultimattt::{agreed_opening_into, full_verdict, legal_moves_into, referee, replay, replay_into, search};
 use ultimattt::{Pool, Refusal, Rule, Settings, BUDGET_MOST, INTERVAL_MOST, NODE_WORDS, POOL_MOST};
 
 fn refused<T: std::fmt::Debug>(answer: Result<T, Refusal>, refusal: Refusal, number: u32, words: &str) {
@@ -46,6 +46,9 @@ fn outputs() {
     refused(replay_into(&E, &[], &mut [0; 20]), Refusal::OutputShort, 7, words);
     refused(replay_into(&E, &[], &mut []), Refusal::OutputShort, 7, words);
     refused(legal_moves_into(&E, &mut [0; 80]), Refusal::OutputShort, 7, words);
+    refused(agreed_opening_into(&[], &[], &mut []), Refusal::OutputShort, 7, words);
+    refused(agreed_opening_into(&[0x44], &[0x44], &mut [0; 20]), Refusal::OutputShort, 7, words);
+    assert_eq!(agreed_opening_into(&[0x44], &[0x44], &mut [0; 21]), Ok(&[0x44][..]));
 }
 
 #[test]
@@ -107,4 +110,5 @@ fn lowest_first() {
     assert_eq!(search(&[], &mut none, Rule::DrawTrue, &bad), Err(Refusal::RecordLength));
     assert_eq!(search(&E, &mut none, Rule::DrawTrue, &bad), Err(Refusal::PoolEmpty));
     assert_eq!(replay_into(&E, &[0x09], &mut []), Err(Refusal::OutputShort));
+    assert_eq!(agreed_opening_into(&[0x09], &[0x09], &mut []), Err(Refusal::OutputShort));
 }

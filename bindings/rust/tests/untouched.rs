@@ -3,7 +3,8 @@
 mod common;
 
 use common::{budget, w, E};
-use ultimattt::{full_verdict, legal_moves_into, replay_into, search, Pool, Refusal, Rule, NODE_WORDS};
+use ultimattt::{agreed_opening_into, full_verdict, legal_moves_into, replay, replay_into, search};
+use ultimattt::{Pool, Refusal, Rule, NODE_WORDS};
 
 const MARK: u8 = 0xEE;
 
@@ -13,6 +14,16 @@ fn output_past_the_record() {
     assert_eq!(replay_into(&E, &[], &mut output), Ok(()));
     assert_eq!(output[..21], E);
     assert_eq!(output[21..], [MARK; 19]);
+}
+
+#[test]
+fn output_past_an_opening() {
+    let mut output = [MARK; 22];
+    assert_eq!(agreed_opening_into(&[0x44], &[], &mut output[..21]), Ok(&[][..]));
+    assert_eq!((&output[..21], output[21]), (&E[..], MARK));
+    assert_eq!(agreed_opening_into(&[0x44], &[0x44], &mut output), Ok(&[0x44][..]));
+    assert_eq!(replay(&E, &[0x44]).unwrap(), output[..21]);
+    assert_eq!(output[21], MARK);
 }
 
 #[test]
@@ -28,6 +39,7 @@ fn output_of_a_refused_call() {
     let mut output = [MARK; 100];
     assert_eq!(replay_into(&E, &[0x44, 0x44], &mut output), Err(Refusal::NotEmpty(1)));
     assert_eq!(legal_moves_into(&E, &mut output[..80]), Err(Refusal::OutputShort));
+    assert_eq!(agreed_opening_into(&[0x44], &[0x44], &mut output[..20]), Err(Refusal::OutputShort));
     assert_eq!(output, [MARK; 100]);
 }
 

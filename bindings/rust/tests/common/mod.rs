@@ -7,10 +7,16 @@ pub const X: u8 = 1;
 pub const O: u8 = 2;
 pub const FREE_CHOICE: u8 = 15;
 
-/// The 21 bytes that hexadecimal digits stand for.
+/// The bytes that hexadecimal digits stand for.
+pub fn bytes(digits: &str) -> Vec<u8> {
+    assert_eq!(digits.len() % 2, 0, "a byte has two digits");
+    let byte = |i| u8::from_str_radix(&digits[i..i + 2], 16).expect("hexadecimal digits");
+    (0..digits.len()).step_by(2).map(byte).collect()
+}
+
+/// The record that hexadecimal digits stand for.
 pub fn record(digits: &str) -> Record {
-    assert_eq!(digits.len(), 42, "a record has 42 digits");
-    std::array::from_fn(|i| u8::from_str_radix(&digits[2 * i..2 * i + 2], 16).expect("hexadecimal digits"))
+    bytes(digits).try_into().expect("a record has 42 digits")
 }
 
 /// A record of X to move from its target and its marked cells: boards, cells of each, code.
@@ -29,6 +35,9 @@ pub fn x_to_move(target: u8, marks: &[(&[usize], &[usize], u8)]) -> Record {
 
 /// E, the empty game.
 pub const E: Record = EMPTY_GAME;
+
+/// G, a game that X wins by boards 0, 3 and 6, in 21 moves.
+pub const G: &str = "666008800663377007733116644662288644422334";
 
 /// W: X to move wins at once on board 2.
 pub fn w() -> Record {
