@@ -6,10 +6,11 @@
 //! search RECORD RULE POOL-NODES LIMIT BUDGET INTERVAL   the nine fields
 //! full RECORD POOL-NODES LIMIT BUDGET INTERVAL          VERDICT | nine fields | nine fields
 //! referee RECORD RULE                                   True or False
+//! sheets FIRST SECOND [OUTPUT-LENGTH]                   COUNT RECORD
 //!                                                       refused NUMBER INDEX
 //! ```
 //!
-//! Records and moves are hexadecimal, `-` for none. The output length is that of the lent buffer.
+//! Records, moves and sheets are hexadecimal, `-` for none. The output length is that of the lent buffer.
 
 use crate::hex;
 use crate::table::{MOVES_ROOM, RECORD_ROOM};
@@ -25,6 +26,7 @@ pub enum Call {
     Search { record: Vec<u8>, rule: u64, pool: u64, limit: u64, budget: u64, interval: u64 },
     Full { record: Vec<u8>, pool: u64, limit: u64, budget: u64, interval: u64 },
     Referee { record: Vec<u8>, rule: u64 },
+    Sheets { first: Vec<u8>, second: Vec<u8>, output: usize },
 }
 
 /// Which call it is.
@@ -35,10 +37,11 @@ pub enum Kind {
     Search,
     Full,
     Referee,
+    Sheets,
 }
 
 impl Kind {
-    pub const ALL: [Kind; 5] = [Kind::Moves, Kind::Replay, Kind::Search, Kind::Full, Kind::Referee];
+    pub const ALL: [Kind; 6] = [Kind::Moves, Kind::Replay, Kind::Search, Kind::Full, Kind::Referee, Kind::Sheets];
 
     /// The word that a call's line starts with.
     pub fn name(self) -> &'static str {
@@ -48,6 +51,24 @@ impl Kind {
             Kind::Search => "search",
             Kind::Full => "full",
             Kind::Referee => "referee",
+            Kind::Sheets => "sheets",
+        }
+    }
+
+    /// The call that a line starting with this word is.
+    pub fn named(word: &str) -> Option<Kind> {
+        Kind::ALL.into_iter().find(|kind| kind.name() == word)
+    }
+
+    /// What comes after the name.
+    fn takes(self) -> &'static str {
+        match self {
+            Kind::Moves => "RECORD [OUTPUT-LENGTH]",
+            Kind::Replay => "RECORD MOVES [OUTPUT-LENGTH]",
+            Kind::Search => "RECORD RULE POOL-NODES LIMIT BUDGET INTERVAL",
+            Kind::Full => "RECORD POOL-NODES LIMIT BUDGET INTERVAL",
+            Kind::Referee => "RECORD RULE",
+            Kind::Sheets => "FIRST SECOND [OUTPUT-LENGTH]",
         }
     }
 }
@@ -60,6 +81,7 @@ impl Call {
             Call::Search { .. } => Kind::Search,
             Call::Full { .. } => Kind::Full,
             Call::Referee { .. } => Kind::Referee,
+            Call::Sheets { .. } => Kind::Sheets,
         }
     }
 }
@@ -117,6 +139,11 @@ pub enum Answer {
     /// The results under rule 1 and rule 2 follow the verdict.
     Full(FullVerdict, Fields, Fields),
     Value(bool),
+    /// How many moves the agreed opening has, and the record after it.
+    Opening {
+        count: u64,
+        record: Vec<u8>,
+    },
     Refused {
         number: u32,
         index: u64,
@@ -156,6 +183,7 @@ impl fmt::Display for Answer {
             Answer::Search(fields) => write!(f, "{}", fields),
             Answer::Full(verdict, first, second) => write!(f, "{} | {} | {}", verdict.name(), first, second),
             Answer::Value(value) => write!(f, "{}", if *value { "True" } else { "False" }),
+            Answer::Opening { count, record } => write!(f, "{} {}", count, hex::show(record)),
             Answer::Refused { number, index } => write!(f, "refused {} {}", number, index),
         }
     }
@@ -179,6 +207,10 @@ impl fmt::Display for Call {
                 write!(f, "full {} {} {} {} {}", hex::show(record), pool, limit, budget, interval)
             }
             Call::Referee { record, rule } => write!(f, "referee {} {}", hex::show(record), rule),
+            Call::Sheets { first, second, output } => {
+                write!(f, "sheets {} {}", hex::show(first), hex::show(second))?;
+                write_output(f, *output, RECORD_ROOM)
+            }
         }
     }
 }
@@ -196,7 +228,6 @@ fn write_output(f: &mut fmt::Formatter, output: usize, usual: usize) -> fmt::Res
 pub fn parse(line: &str) -> Result<Call, String> {
     let words: Vec<&str> = line.split_whitespace().collect();
     match words.as_slice() {
-        [] => Err("no call".to_string()),
         ["moves", record, rest @ ..] => {
             Ok(Call::Moves { record: bytes("record", record)?, output: output(rest, MOVES_ROOM)? })
         }
@@ -223,12 +254,21 @@ pub fn parse(line: &str) -> Result<Call, String> {
         ["referee", record, rule] => {
             Ok(Call::Referee { record: bytes("record", record)?, rule: number("rule", rule)? })
         }
-        ["moves", ..] => Err("moves takes RECORD [OUTPUT-LENGTH]".to_string()),
-        ["replay", ..] => Err("replay takes RECORD MOVES [OUTPUT-LENGTH]".to_string()),
-        ["search", ..] => Err("search takes RECORD RULE POOL-NODES LIMIT BUDGET INTERVAL".to_string()),
-        ["full", ..] => Err("full takes RECORD POOL-NODES LIMIT BUDGET INTERVAL".to_string()),
-        ["referee", ..] => Err("referee takes RECORD RULE".to_string()),
-        [other, ..] => Err(format!("no call is named {:?}", other)),
+        ["sheets", first, second, rest @ ..] => Ok(Call::Sheets {
+            first: bytes("first sheet", first)?,
+            second: bytes("second sheet", second)?,
+            output: output(rest, RECORD_ROOM)?,
+        }),
+        words => Err(no_call(words)),
+    }
+}
+
+/// Why the words of a line are no call.
+fn no_call(words: &[&str]) -> String {
+    match words.first().map(|word| (word, Kind::named(word))) {
+        None => "no call".to_string(),
+        Some((word, None)) => format!("no call is named {:?}", word),
+        Some((word, Some(kind))) => format!("{} takes {}", word, kind.takes()),
     }
 }
 

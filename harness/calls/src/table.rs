@@ -97,7 +97,12 @@ fn badly_won(position: &Position) -> bool {
 
 /// Checks 1 to 7 of replay (`room` is `RECORD_ROOM`) and of legal moves (`MOVES_ROOM`).
 pub fn output_refusal(record: &[u8], output: usize, room: usize) -> Option<u32> {
-    record_refusal(record).or(first(&[(7, output < room)]))
+    record_refusal(record).or(room_refusal(output, room))
+}
+
+/// Check 7, the only one of the agreed opening (`room` is `RECORD_ROOM`).
+pub fn room_refusal(output: usize, room: usize) -> Option<u32> {
+    first(&[(7, output < room)])
 }
 
 /// Checks 1 to 6 and 8 to 10 of search.

@@ -1,7 +1,7 @@
 //! Lines, records and the table, on small inputs.
 
 use calls::record::{Position, FREE_CHOICE, X};
-use calls::{hex, line, table, Call};
+use calls::{hex, line, table, Answer, Call, Kind};
 
 #[test]
 fn lines_are_read_and_printed() {
@@ -13,10 +13,22 @@ fn lines_are_read_and_printed() {
         "search 00 0 1 18446744073709551615 3 4",
         "full 00 1 18446744073709551615 3 4",
         "referee 00 2",
+        "sheets - -",
+        "sheets 44 4440 20",
+        "sheets 4440FF - 0",
     ] {
         assert_eq!(line::parse(text).expect(text).to_string(), text);
     }
     assert_eq!(line::parse(" moves  78\t81 \n"), Ok(Call::Moves { record: vec![0x78], output: 81 }));
+    let sheets = Call::Sheets { first: vec![0x44], second: vec![], output: 21 };
+    assert_eq!(line::parse("sheets 44 - 21"), Ok(sheets));
+}
+
+#[test]
+fn an_opening_is_printed_as_its_count_and_record() {
+    let record = Position::start().write().to_vec();
+    let text = format!("0 78{}", "00".repeat(20));
+    assert_eq!(Answer::Opening { count: 0, record }.to_string(), text);
 }
 
 #[test]
@@ -38,10 +50,28 @@ fn wrong_lines_are_told() {
         "referee 00 0 1",
         "search 00 0 1 2 3 -4",
         "search 00 0 1 18446744073709551616 3 4",
+        "sheets",
+        "sheets 44",
+        "sheets 44 4",
+        "sheets 4g 44",
+        "sheets 44 44 21 21",
+        "sheets 44 44 1000001",
     ];
     for text in wrong {
         assert!(line::parse(text).is_err(), "{:?}", text);
     }
+}
+
+#[test]
+fn a_line_of_too_few_words_is_told_what_its_call_takes() {
+    for kind in Kind::ALL {
+        let message = line::parse(kind.name()).expect_err("a call takes something");
+        assert!(message.starts_with(&format!("{} takes ", kind.name())), "{:?}", message);
+        assert_eq!(Kind::named(kind.name()), Some(kind));
+    }
+    let message = line::parse("sheets 44").expect_err("a call has two sheets");
+    assert_eq!(message, "sheets takes FIRST SECOND [OUTPUT-LENGTH]");
+    assert_eq!(Kind::named("sheet"), None);
 }
 
 #[test]
@@ -101,4 +131,8 @@ fn settings_are_checked_in_order() {
     assert_eq!(table::referee_refusal(&record, 2), Some(16));
     assert_eq!(table::output_refusal(&record, 20, table::RECORD_ROOM), Some(7));
     assert_eq!(table::output_refusal(&record, 80, table::MOVES_ROOM), Some(7));
+    assert_eq!(
+        [0, 20, 21, 22].map(|output| table::room_refusal(output, table::RECORD_ROOM)),
+        [Some(7), Some(7), None, None]
+    );
 }

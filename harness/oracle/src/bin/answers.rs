@@ -46,7 +46,7 @@ fn kinds(names: &[&str]) -> Option<Vec<Kind>> {
     if names.is_empty() {
         return Some(Kind::ALL.to_vec());
     }
-    names.iter().map(|name| Kind::ALL.into_iter().find(|k| k.name() == *name)).collect()
+    names.iter().map(|name| Kind::named(name)).collect()
 }
 
 fn list(seed: u64, count: usize, kinds: &[Kind]) -> io::Result<()> {
@@ -69,6 +69,6 @@ fn list(seed: u64, count: usize, kinds: &[Kind]) -> io::Result<()> {
 fn is_stored(call: &Call) -> bool {
     match call {
         Call::Search { pool, .. } | Call::Full { pool, .. } => *pool <= STORED_NODES,
-        Call::Moves { .. } | Call::Replay { .. } | Call::Referee { .. } => true,
+        Call::Moves { .. } | Call::Replay { .. } | Call::Referee { .. } | Call::Sheets { .. } => true,
     }
 }
