@@ -1,8 +1,8 @@
 //! The calls (MANUAL, Calls), answered by the original: replay by `make_move`, legal moves by
 //! `all_moves` (never on a finished position, where there are none: MANUAL, The game), search by
-//! `Prover::prove`. Refusals 1 to 10 and 16 come from `calls::table`. The original has no full verdict
-//! and no referee: the one is two of its searches and a name of our own (`full`), the other our own
-//! exhaustive value over its moves (`value`).
+//! `Prover::prove`. Refusals 1 to 10 and 16 come from `calls::table`. The original has no full verdict,
+//! no referee and no agreed opening: the first is two of its searches and a name of our own (`full`), the
+//! others are our own exhaustive value (`value`) and our own walk of two lists (`opening`) over its moves.
 
 use crate::game::{Game, GameState, Move, MoveError, Player};
 use crate::load;
@@ -41,6 +41,10 @@ pub fn answer(call: &Call) -> Answer {
             let game = load::game(accepted(record));
             Answer::Value(value(&game, *rule, game.player()))
         }),
+        Call::Sheets { first, second, output } => refused_or(table::room_refusal(*output, RECORD_ROOM), || {
+            let (count, game) = opening(first, second);
+            Answer::Opening { count: count as u64, record: load::record(&game).to_vec() }
+        }),
     }
 }
 
@@ -57,11 +61,56 @@ fn accepted(record: &[u8]) -> &[u8; LENGTH] {
 pub fn replay(record: &[u8; LENGTH], moves: &[u8]) -> Result<[u8; LENGTH], (u32, u64)> {
     let mut game = load::game(record);
     for (index, byte) in moves.iter().enumerate() {
-        let (board, cell) = (byte / 16, byte % 16);
-        game =
-            game.make_move(Move::from_coords(board as usize, cell as usize)).map_err(|e| (number(e), index as u64))?;
+        game = game.make_move(move_of(*byte)).map_err(|e| (number(e), index as u64))?;
     }
     Ok(load::record(&game))
+}
+
+/// The move of a byte: board and cell are its two digits.
+pub fn move_of(byte: u8) -> Move {
+    Move::from_coords((byte / 16).into(), (byte % 16).into())
+}
+
+/// How many moves of two lists are played from the empty game until the lists differ, a move is an error
+/// or a list ends, and the position then.
+pub fn opening(first: &[u8], second: &[u8]) -> (usize, Game) {
+    let mut game = Game::new();
+    let mut count = 0;
+    for (one, other) in first.iter().zip(second) {
+        if one != other {
+            break;
+        }
+        let Ok(after) = game.make_move(move_of(*one)) else { break };
+        game = after;
+        count += 1;
+    }
+    (count, game)
+}
+
+/// What ends an opening.
+#[derive(Clone, Copy, Debug, PartialEq, Eq, PartialOrd, Ord)]
+pub enum Ending {
+    BothEnd,
+    FirstEnds,
+    SecondEnds,
+    Difference,
+    /// Both have a move that is an error, of this number.
+    Error(u32),
+}
+
+/// What ends the opening of two lists.
+pub fn ending(first: &[u8], second: &[u8]) -> Ending {
+    let (count, game) = opening(first, second);
+    match (first.get(count), second.get(count)) {
+        (None, None) => Ending::BothEnd,
+        (None, Some(_)) => Ending::FirstEnds,
+        (Some(_), None) => Ending::SecondEnds,
+        (Some(one), Some(other)) if one != other => Ending::Difference,
+        (Some(one), Some(_)) => match game.make_move(move_of(*one)) {
+            Ok(_) => unreachable!("an opening ends before no legal move of both"),
+            Err(error) => Ending::Error(number(error)),
+        },
+    }
 }
 
 /// The error's number (MANUAL, Turned back).

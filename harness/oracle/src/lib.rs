@@ -29,4 +29,4 @@ pub mod load;
 mod simd;
 mod util;
 
-pub use answer::{answer, legal_moves, replay, search};
+pub use answer::{answer, ending, legal_moves, move_of, opening, replay, search, Ending};

@@ -1,9 +1,10 @@
 //! The generator repeats itself, reaches every kind of answer, and what it makes loads and stores.
 
 use calls::{table, Answer, Call, Kind};
+use oracle::game::GameState;
 use oracle::generate::{call, Random};
-use oracle::load;
-use std::collections::BTreeSet;
+use oracle::{ending, load, opening, Ending};
+use std::collections::{BTreeMap, BTreeSet};
 
 #[test]
 fn one_seed_gives_one_list() {
@@ -23,7 +24,7 @@ fn outcomes(kind: Kind) -> BTreeSet<u64> {
         Answer::Refused { number, .. } => number as u64,
         Answer::Search(fields) => 20 + fields.cause,
         Answer::Full(verdict, ..) => 30 + verdict as u64,
-        Answer::Moves(_) | Answer::Record(_) | Answer::Value(_) => 0,
+        Answer::Moves(_) | Answer::Record(_) | Answer::Value(_) | Answer::Opening { .. } => 0,
     };
     answers.map(outcome).collect()
 }
@@ -35,6 +36,31 @@ fn every_outcome_is_reached() {
     assert_eq!(outcomes(Kind::Search), (1..=6).chain(8..=10).chain(20..=23).collect());
     assert_eq!(outcomes(Kind::Full), (1..=6).chain(8..=10).chain(30..=35).collect());
     assert_eq!(outcomes(Kind::Referee), (0..=6).chain([10, 16]).collect());
+    assert_eq!(outcomes(Kind::Sheets), [0, 7].into());
+}
+
+/// How many openings of a hundred end in each way, at least; moves after the game's end come after won and
+/// after drawn games.
+#[test]
+fn openings_end_in_every_way() {
+    let few = (11..=15).map(|number| (Ending::Error(number), 2));
+    let many = [(Ending::BothEnd, 15), (Ending::FirstEnds, 7), (Ending::SecondEnds, 7), (Ending::Difference, 35)];
+    let due: BTreeMap<Ending, u64> = many.into_iter().chain(few).collect();
+    let mut random = Random::new(1);
+    let mut seen: BTreeMap<Ending, u64> = BTreeMap::new();
+    let mut drawn = BTreeSet::new();
+    for _ in 0..4_000 {
+        let Call::Sheets { first, second, .. } = call(&mut random, Kind::Sheets) else { unreachable!() };
+        let ending = ending(&first, &second);
+        *seen.entry(ending).or_default() += 1;
+        if ending == Ending::Error(12) {
+            drawn.insert(opening(&first, &second).1.game_state() == GameState::Drawn);
+        }
+    }
+    for (ending, least) in due {
+        assert!(seen.get(&ending).is_some_and(|times| *times >= 40 * least), "{:?} of {:?}", ending, seen);
+    }
+    assert_eq!(drawn, [false, true].into());
 }
 
 /// An accepted record loads and is stored as the same bytes; after each move of a replay the
@@ -51,8 +77,7 @@ fn loading_is_what_play_gives() {
         let mut game = load::game(bytes);
         assert_eq!(load::record(&game), *bytes);
         for byte in moves {
-            let m = oracle::game::Move::from_coords((byte / 16).into(), (byte % 16).into());
-            let Ok(after) = game.make_move(m) else { break };
+            let Ok(after) = game.make_move(oracle::move_of(byte)) else { break };
             assert_eq!(load::game(&load::record(&after)), after);
             game = after;
         }

@@ -1,11 +1,12 @@
 //! Calls at random, the same for the same seed: records reached by play and accepted ones that no
-//! game reaches, damaged ones, right and wrong moves, settings in and out of range.
+//! game reaches, damaged ones, right and wrong moves, pairs of sheets, settings in and out of range.
 
 mod damaged;
 mod moves;
 mod positions;
 mod random;
 mod settings;
+mod sheets;
 
 pub use random::Random;
 
@@ -38,6 +39,10 @@ pub fn call(random: &mut Random, kind: Kind) -> Call {
             Call::Full { record, pool: s.pool, limit: s.limit, budget: s.budget, interval: s.interval }
         }
         Kind::Referee => referee(random),
+        Kind::Sheets => {
+            let (first, second) = sheets::sheets(random);
+            Call::Sheets { first, second, output: output(random, RECORD_ROOM) }
+        }
     }
 }
 

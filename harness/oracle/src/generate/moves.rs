@@ -2,8 +2,8 @@
 
 use super::positions::legal_move;
 use super::random::Random;
-use crate::answer::number;
-use crate::game::{Game, Move};
+use crate::answer::{move_of, number};
+use crate::game::Game;
 use crate::load;
 use calls::record::LENGTH;
 
@@ -21,7 +21,7 @@ pub fn moves(random: &mut Random, record: &[u8; LENGTH]) -> Vec<u8> {
     }
 }
 
-fn legal(random: &mut Random, mut game: Game) -> Vec<u8> {
+pub fn legal(random: &mut Random, mut game: Game) -> Vec<u8> {
     let mut moves = Vec::new();
     for _ in 0..random.below(82) {
         let Some(m) = legal_move(random, &game) else { break };
@@ -54,9 +54,6 @@ fn spoiled(random: &mut Random, mut game: Game, kind: u32) -> Vec<u8> {
 
 /// Every byte that the original refuses as `kind`.
 fn wrong_moves(game: &Game, kind: u32) -> Vec<u8> {
-    let refused = |byte: &u8| {
-        let m = Move::from_coords((byte / 16) as usize, (byte % 16) as usize);
-        game.make_move(m).is_err_and(|e| number(e) == kind)
-    };
+    let refused = |byte: &u8| game.make_move(move_of(*byte)).is_err_and(|e| number(e) == kind);
     (0..=255).filter(refused).collect()
 }
