@@ -83,7 +83,7 @@ fn hexadecimal_goes_both_ways() {
 }
 
 #[test]
-fn the_empty_game_has_document_01s_bytes() {
+fn the_empty_game_has_the_manuals_bytes() {
     let record = Position::start().write();
     assert_eq!(record[0], 0x78);
     assert!(record[1..].iter().all(|b| *b == 0));
