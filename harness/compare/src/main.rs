@@ -10,6 +10,7 @@ mod shrink;
 
 use calls::{Answer, Call, Kind};
 use oracle::generate::{self, Random};
+use oracle::Ending;
 use std::collections::BTreeMap;
 use std::process::ExitCode;
 use uttt::ours;
@@ -73,8 +74,21 @@ fn kind(call: &Call, answer: &Answer) -> String {
         Answer::Moves(moves) if moves.is_empty() => "none".to_string(),
         Answer::Moves(_) | Answer::Record(_) => "answered".to_string(),
         Answer::Value(_) => answer.to_string(),
+        Answer::Opening { .. } => how_it_ended(call),
     };
     format!("{:<7}  {}", call.kind().name(), outcome)
+}
+
+/// What ended the opening of two sheets.
+fn how_it_ended(call: &Call) -> String {
+    let Call::Sheets { first, second, .. } = call else { unreachable!("no other call has an opening") };
+    match oracle::ending(first, second) {
+        Ending::BothEnd => "both end".to_string(),
+        Ending::FirstEnds => "the first ends".to_string(),
+        Ending::SecondEnds => "the second ends".to_string(),
+        Ending::Difference => "they differ".to_string(),
+        Ending::Error(number) => format!("error {} on both", number),
+    }
 }
 
 fn report(call: &Call) {

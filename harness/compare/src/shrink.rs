@@ -44,7 +44,19 @@ fn smaller(call: &Call) -> Vec<Call> {
             out.extend(records(record).map(|record| Call::Referee { record, rule: *rule }));
             out
         }
+        Call::Sheets { first, second, output } => sheets(first, second, *output),
     }
+}
+
+/// Both sheets without the same move, then one of them with fewer moves, then the usual output.
+fn sheets(first: &[u8], second: &[u8], output: usize) -> Vec<Call> {
+    let with = |first: Vec<u8>, second: Vec<u8>, output: usize| Call::Sheets { first, second, output };
+    let both = (0..first.len().min(second.len())).rev();
+    let mut out: Vec<Call> = both.map(|at| with(without(first, at), without(second, at), output)).collect();
+    out.extend(fewer(first).map(|f| with(f, second.to_vec(), output)));
+    out.extend(fewer(second).map(|s| with(first.to_vec(), s, output)));
+    out.extend(usual(output, RECORD_ROOM).map(|o| with(first.to_vec(), second.to_vec(), o)));
+    out
 }
 
 /// Calls made from a smaller record, or from settings (pool, limit, budget, interval) of which one is
@@ -67,7 +79,12 @@ fn searches(record: &[u8], settings: [u64; 4], call: impl Fn(Vec<u8>, [u64; 4]) 
 /// The moves without one, or cut in half.
 fn fewer(moves: &[u8]) -> impl Iterator<Item = Vec<u8>> + '_ {
     let halves = [moves.len() / 2].into_iter().filter(|half| *half < moves.len()).map(|half| moves[..half].to_vec());
-    halves.chain((0..moves.len()).rev().map(|left| [&moves[..left], &moves[left + 1..]].concat()))
+    halves.chain((0..moves.len()).rev().map(|at| without(moves, at)))
+}
+
+/// The moves without the one at `at`.
+fn without(moves: &[u8], at: usize) -> Vec<u8> {
+    [&moves[..at], &moves[at + 1..]].concat()
 }
 
 /// The usual length, where it is another.

@@ -28,6 +28,7 @@ fn answer_under(call: &Call, pattern: u8) -> Result<Answer, String> {
             full(record, *pool, [*limit, *budget, *interval], pattern)
         }
         Call::Referee { record, rule } => referee(record, *rule),
+        Call::Sheets { first, second, output } => sheets(first, second, *output, pattern),
     }
 }
 
@@ -77,6 +78,39 @@ fn referee(record: &[u8], rule: u64) -> Result<Answer, String> {
         (0, other) => Err(format!("answered with value {}", other)),
         (number, 0) => Ok(Answer::refused(number)),
         (number, other) => Err(format!("refused {} with a value, {}", number, other)),
+    }
+}
+
+/// The number holds the pattern before the call, which is neither 0 nor 7, and so do the words next to it.
+fn sheets(first: &[u8], second: &[u8], output: usize, pattern: u8) -> Result<Answer, String> {
+    let mut lent = Lent::new(output, pattern);
+    let held = u32::from_ne_bytes([pattern; 4]);
+    let mut words = [held; 3];
+    let (one, other) = if pattern >> 7 == 1 { in_one_memory(first, second) } else { (first, second) };
+    let (first_before, second_before) = (first.to_vec(), second.to_vec());
+    let (from, to, number) = (one.as_ptr(), lent.pointer(), words.as_mut_ptr().wrapping_add(1));
+    // SAFETY: pointers and lengths belong together; what is written is apart from all else.
+    let count = unsafe { ffi::uttt_agreed_opening(from, one.len(), other.as_ptr(), other.len(), to, output, number) };
+    same("first sheet", &first_before, first)?;
+    same("second sheet", &second_before, second)?;
+    if words[0] != held || words[2] != held {
+        return Err("a word next to the number was written".to_string());
+    }
+    match words[1] {
+        0 => Ok(Answer::Opening { count, record: lent.written(LENGTH)?.to_vec() }),
+        7 => refusal(&lent, 7, 0, count),
+        other => Err(format!("answered with number {}", other)),
+    }
+}
+
+/// Two lists; where one is the beginning of the other, it is lent as that part of it.
+fn in_one_memory<'a>(first: &'a [u8], second: &'a [u8]) -> (&'a [u8], &'a [u8]) {
+    if first.starts_with(second) {
+        (first, &first[..second.len()])
+    } else if second.starts_with(first) {
+        (&second[..first.len()], second)
+    } else {
+        (first, second)
     }
 }
 
