@@ -2,9 +2,9 @@
 //! is the right one is the comparison's to see.
 
 use crate::run::Answered;
-use calls::record::LENGTH;
-use calls::table::{self, MOVES_ROOM, RECORD_ROOM};
-use calls::Call;
+use calls::record::{EMPTY, FREE_CHOICE, LENGTH, O, X};
+use calls::table::{self, Board, MOVES_ROOM, RECORD_ROOM};
+use calls::{Call, Position};
 
 const INFINITY: u64 = 2_147_483_648;
 const LARGEST_NUMBER: u64 = 4_294_967_295;
@@ -36,7 +36,7 @@ pub fn check(call: &Call, a: &Answered) -> Result<(), String> {
 pub fn written(call: &Call, a: &Answered) -> usize {
     match call {
         Call::Moves { .. } if a.code == 0 => a.numbers[0] as usize,
-        Call::Replay { .. } if a.code == 0 => LENGTH,
+        Call::Replay { .. } | Call::Sheets { .. } if a.code == 0 => LENGTH,
         _ => 0,
     }
 }
@@ -51,12 +51,13 @@ fn due(call: &Call) -> Option<u32> {
             table::search_refusal(record, *rule, *pool, *budget, *interval)
         }
         Call::Full { record, pool, budget, interval, .. } => table::full_refusal(record, *pool, *budget, *interval),
+        Call::Sheets { output, .. } => table::room_refusal(*output, RECORD_ROOM),
     }
 }
 
 /// The index names a move; a byte that is no move is the first one, and no later one is refused for it.
 fn bad_index(moves: &[u8], a: &Answered) -> Result<(), String> {
-    let no_move = |m: &u8| m / 16 > 8 || m % 16 > 8;
+    let no_move = |m: &u8| !is_move(m);
     match moves.get(a.index as usize) {
         None => Err(format!("index {} of {} moves", a.index, moves.len())),
         Some(m) if no_move(m) != (a.code == 11) => Err(format!("code {} for move {:02X}", a.code, m)),
@@ -78,6 +79,7 @@ fn result(call: &Call, a: &Answered) -> Result<(), String> {
             search(second, settings)?;
             must(a.numbers[0] == full(first[0], second[0]), "the full verdict is that of the two verdicts")
         }
+        Call::Sheets { first, second, .. } => opening(first, second, a.numbers[0], &a.output),
     }
 }
 
@@ -85,11 +87,16 @@ fn must(holds: bool, what: &str) -> Result<(), String> {
     holds.then_some(()).ok_or_else(|| format!("it must hold that {}", what))
 }
 
+/// It names a board and a cell.
+fn is_move(m: &u8) -> bool {
+    m / 16 <= 8 && m % 16 <= 8
+}
+
 /// Moves ascend, and each names a board and a cell.
 fn moves(count: u64, output: &[u8]) -> Result<(), String> {
     must(count <= MOST_MOVES, "there are up to 81 moves")?;
     let moves = &output[..count as usize];
-    must(moves.iter().all(|m| m / 16 <= 8 && m % 16 <= 8), "a move names a board and a cell")?;
+    must(moves.iter().all(is_move), "a move names a board and a cell")?;
     must(moves.windows(2).all(|pair| pair[0] < pair[1]), "moves ascend")
 }
 
@@ -101,8 +108,34 @@ fn replayed(record: &[u8], moves: &[u8], output: &[u8]) -> Result<(), String> {
 }
 
 fn taken(record: &[u8]) -> usize {
-    let bytes = record.try_into().expect("an accepted record has 21 bytes");
-    81 - calls::Position::read(bytes).count(calls::record::EMPTY)
+    81 - position(record).count(EMPTY)
+}
+
+fn position(record: &[u8]) -> Position {
+    Position::read(record.try_into().expect("an accepted record has 21 bytes"))
+}
+
+/// The opening begins both sheets, the record is the empty game's with those moves' cells taken by X and O in
+/// turn, and the next move, if both sheets have the same, can't be played.
+fn opening(first: &[u8], second: &[u8], count: u64, output: &[u8]) -> Result<(), String> {
+    let count = count as usize;
+    must(count <= first.len().min(second.len()), "no sheet has fewer moves than the opening")?;
+    let (part, rest) = first.split_at(count);
+    must(second.starts_with(part), "the opening begins both sheets")?;
+    must(part.iter().all(is_move), "a move names a board and a cell")?;
+    replayed(&Position::start().write(), part, output)?;
+    let after = position(&output[..LENGTH]);
+    let in_turn = |(m, side): (&u8, &u8)| after.cells[(m / 16) as usize][(m % 16) as usize] == *side;
+    must(part.iter().zip([X, O].iter().cycle()).all(in_turn), "X and O take the cells in turn")?;
+    let next = rest.first().filter(|m| second.get(count) == Some(m));
+    must(!next.is_some_and(|m| is_legal(&after, m)), "no longer part of both is legal")
+}
+
+fn is_legal(position: &Position, m: &u8) -> bool {
+    let (board, cell) = (m / 16, m % 16);
+    let open = |cells: &[u8; 9]| table::board_state(cells) == Board::InPlay && cells[cell as usize] == EMPTY;
+    let allowed = position.target == FREE_CHOICE || position.target == board;
+    is_move(m) && !table::finished(position) && allowed && open(&position.cells[board as usize])
 }
 
 /// The nine fields of an answered search; settings are pool, limit, budget and interval.

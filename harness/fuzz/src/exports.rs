@@ -1,4 +1,4 @@
-//! The five exports as pointers, so that wrong ones can stand in for them (`wrong`).
+//! The six exports as pointers, so that wrong ones can stand in for them (`wrong`).
 
 use uttt::ffi;
 
@@ -7,6 +7,7 @@ type Moves = unsafe extern "C" fn(*const u8, usize, *mut u8, usize) -> ffi::Move
 type Referee = unsafe extern "C" fn(*const u8, usize, u64) -> ffi::RefereeAnswer;
 type Search = unsafe extern "C" fn(*const u8, usize, *mut u32, usize, u64, u64, u64, u64) -> ffi::SearchAnswer;
 type Full = unsafe extern "C" fn(*const u8, usize, *mut u32, usize, u64, u64, u64) -> ffi::FullAnswer;
+type Sheets = unsafe extern "C" fn(*const u8, usize, *const u8, usize, *mut u8, usize, *mut u32) -> u64;
 
 #[derive(Clone, Copy)]
 pub struct Exports {
@@ -15,6 +16,7 @@ pub struct Exports {
     pub referee: Referee,
     pub search: Search,
     pub full: Full,
+    pub sheets: Sheets,
 }
 
 /// The proved library's.
@@ -24,4 +26,5 @@ pub const LIBRARY: Exports = Exports {
     referee: ffi::uttt_referee,
     search: ffi::uttt_search,
     full: ffi::uttt_full_verdict,
+    sheets: ffi::uttt_agreed_opening,
 };

@@ -38,15 +38,22 @@ fn damage(random: &mut Random, call: &mut Call) {
                 *one_of(random, [pool, limit, budget, interval]) = number(random)
             }
             (0, Call::Referee { rule, .. }) => *rule = number(random),
-            (1, Call::Moves { output, .. } | Call::Replay { output, .. }) => *output = length(random),
-            (_, any) => damage_bytes(random, record_of(any)),
+            (0, Call::Sheets { second, .. }) => damage_bytes(random, second),
+            (1, Call::Moves { output, .. } | Call::Replay { output, .. } | Call::Sheets { output, .. }) => {
+                *output = length(random)
+            }
+            (_, Call::Sheets { first, second, .. }) => {
+                damage_bytes(random, first);
+                second.clone_from(first)
+            }
+            (_, any) => damage_bytes(random, first_of(any)),
         }
     }
 }
 
 /// Everything at random.
 fn scramble(random: &mut Random, call: &mut Call) {
-    *record_of(call) = bytes(random);
+    *first_of(call) = bytes(random);
     match call {
         Call::Moves { output, .. } => *output = length(random),
         Call::Replay { moves, output, .. } => (*moves, *output) = (bytes(random), length(random)),
@@ -57,16 +64,22 @@ fn scramble(random: &mut Random, call: &mut Call) {
         Call::Full { pool, limit, budget, interval, .. } => {
             [pool, limit, budget, interval].into_iter().for_each(|n| *n = number(random))
         }
+        Call::Sheets { first, second, output } => {
+            *second = if random.once_in(2) { bytes(random) } else { first.clone() };
+            *output = length(random)
+        }
     }
 }
 
-fn record_of(call: &mut Call) -> &mut Vec<u8> {
+/// The record, or the first sheet.
+fn first_of(call: &mut Call) -> &mut Vec<u8> {
     match call {
         Call::Moves { record, .. }
         | Call::Replay { record, .. }
         | Call::Search { record, .. }
         | Call::Full { record, .. }
         | Call::Referee { record, .. } => record,
+        Call::Sheets { first, .. } => first,
     }
 }
 

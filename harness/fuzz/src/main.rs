@@ -152,7 +152,7 @@ fn kind(call: &Call, a: &Answered) -> String {
         (Kind::Search, _) => format!("verdict {}, cause {}", a.numbers[0], a.numbers[8]),
         (Kind::Full, _) => format!("verdict {}, causes {} and {}", a.numbers[0], a.numbers[9], a.numbers[18]),
         (Kind::Referee, _) => format!("value {}", a.numbers[0]),
-        (Kind::Moves, _) if a.numbers[0] == 0 => "none".to_string(),
+        (Kind::Moves | Kind::Sheets, _) if a.numbers[0] == 0 => "none".to_string(),
         _ => "answered".to_string(),
     };
     format!("{:<7}  {}", call.kind().name(), outcome)

@@ -27,9 +27,11 @@ pub struct Lender {
     pub exports: Exports,
     /// A call that takes longer has failed.
     pub seconds: u32,
-    record: Region,
-    moves: Region,
+    /// What is only read: a record or the first sheet, and moves or the second sheet.
+    first: Region,
+    second: Region,
     output: Region,
+    number: Region,
     pool: Region,
 }
 
@@ -37,33 +39,31 @@ impl Lender {
     pub fn new(exports: Exports, seconds: u32) -> Lender {
         let region = |capacity| Region::new(capacity).expect("the system has addresses");
         let pool = region(NODE_BYTES * MOST_NODES as usize + NODE_BYTES);
-        let [record, moves, output] = [(); 3].map(|()| region(2 * LONGEST));
-        Lender { exports, seconds, record, moves, output, pool }
+        let [first, second, output] = [(); 3].map(|()| region(2 * LONGEST));
+        Lender { exports, seconds, first, second, output, number: region(WORD_BYTES), pool }
     }
 
     /// Answers the call, or says what it did that it may not.
     pub fn answer(&mut self, call: &Call, line: &str, edge: Edge, random: &mut Random) -> Result<Answered, String> {
-        let record = record_of(call);
-        self.record.lend_to_read(record, edge, Filling::any(random));
+        let (first, second) = read_by(call);
+        self.first.lend_to_read(first, edge, Filling::any(random));
+        self.second.lend_to_read(second, edge, Filling::any(random));
         let answered = match call {
             Call::Moves { output, .. } => self.moves(*output, line, edge, random),
-            Call::Replay { moves, output, .. } => {
-                self.moves.lend_to_read(moves, edge, Filling::any(random));
-                let answered = self.replay(moves.len(), *output, line, edge, random);
-                kept(&mut self.moves, moves, "list of moves")?;
-                answered
-            }
+            Call::Replay { output, .. } => self.replay(*output, line, edge, random),
             Call::Referee { rule, .. } => Ok(self.referee(*rule, line)),
             Call::Search { pool, .. } | Call::Full { pool, .. } => self.search(call, *pool, line, edge, random),
+            Call::Sheets { output, .. } => self.sheets(*output, line, edge, random),
         }?;
-        kept(&mut self.record, record, "record")?;
+        kept(&mut self.first, first)?;
+        kept(&mut self.second, second)?;
         Ok(answered)
     }
 
     fn moves(&mut self, length: usize, line: &str, edge: Edge, random: &mut Random) -> Result<Answered, String> {
         self.output.lend(length, edge, Filling::any(random));
-        let (record, output, call) = (&mut self.record, self.output.pointer(), self.exports.moves);
-        let (from, size) = (record.pointer(), record.bytes().len());
+        let (output, call) = (self.output.pointer(), self.exports.moves);
+        let (from, size) = (self.first.pointer(), self.first.bytes().len());
         // SAFETY: pointers and lengths belong together, and the buffers are apart.
         let a = watch::during(line, self.seconds, || unsafe { call(from, size, output, length) });
         let written = if a.code == 0 { (a.count as usize).min(length) } else { 0 };
@@ -71,25 +71,41 @@ impl Lender {
         Ok(Answered { code: a.code, index: a.index, numbers: vec![a.count], output: self.output.bytes().to_vec() })
     }
 
-    fn replay(
-        &mut self,
-        moves: usize,
-        length: usize,
-        line: &str,
-        edge: Edge,
-        random: &mut Random,
-    ) -> Result<Answered, String> {
+    fn replay(&mut self, length: usize, line: &str, edge: Edge, random: &mut Random) -> Result<Answered, String> {
         self.output.lend(length, edge, Filling::any(random));
-        let (record, output, call) = (&mut self.record, self.output.pointer(), self.exports.replay);
-        let (from, size, list) = (record.pointer(), record.bytes().len(), self.moves.pointer());
+        let (output, call) = (self.output.pointer(), self.exports.replay);
+        let (from, size) = (self.first.pointer(), self.first.bytes().len());
+        let (list, moves) = (self.second.pointer(), self.second.bytes().len());
         // SAFETY: pointers and lengths belong together, and the buffers are apart.
         let a = watch::during(line, self.seconds, || unsafe { call(from, size, list, moves, output, length) });
-        self.output.unchanged(if a.code == 0 { LENGTH.min(length) } else { 0 })?;
-        Ok(Answered { code: a.code, index: a.index, numbers: vec![], output: self.output.bytes().to_vec() })
+        Ok(Answered { code: a.code, index: a.index, numbers: vec![], output: self.record_output(a.code)? })
+    }
+
+    /// The number is the answer's code. Equal sheets are lent as one where buffers stand at the start of their pages.
+    fn sheets(&mut self, length: usize, line: &str, edge: Edge, random: &mut Random) -> Result<Answered, String> {
+        self.output.lend(length, edge, Filling::any(random));
+        self.number.lend(WORD_BYTES, edge, Filling::any(random));
+        let (output, number, call) = (self.output.pointer(), self.number.pointer() as *mut u32, self.exports.sheets);
+        let (from, size) = (self.first.pointer(), self.first.bytes().len());
+        let as_one = edge == Edge::Start && self.first.bytes() == self.second.bytes();
+        let (other, rest) = (if as_one { from } else { self.second.pointer() }, self.second.bytes().len());
+        // SAFETY: pointers and lengths belong together; what is written is apart from all else.
+        let count =
+            watch::during(line, self.seconds, || unsafe { call(from, size, other, rest, output, length, number) });
+        self.number.unchanged(WORD_BYTES)?;
+        let code = u32::from_ne_bytes(self.number.bytes().try_into().expect("a number is four bytes"));
+        Ok(Answered { code, index: 0, numbers: vec![count], output: self.record_output(code)? })
+    }
+
+    /// The output, if no more than a record was written to it, and nothing with a refusal.
+    fn record_output(&mut self, code: u32) -> Result<Vec<u8>, String> {
+        let length = self.output.bytes().len();
+        self.output.unchanged(if code == 0 { LENGTH.min(length) } else { 0 })?;
+        Ok(self.output.bytes().to_vec())
     }
 
     fn referee(&mut self, rule: u64, line: &str) -> Answered {
-        let (call, from, size) = (self.exports.referee, self.record.pointer(), self.record.bytes().len());
+        let (call, from, size) = (self.exports.referee, self.first.pointer(), self.first.bytes().len());
         // SAFETY: pointer and length belong together.
         let a = watch::during(line, self.seconds, || unsafe { call(from, size, rule) });
         Answered { code: a.code, index: a.index, numbers: vec![a.value.into()], output: vec![] }
@@ -118,7 +134,7 @@ impl Lender {
     }
 
     fn pool_call(&mut self, call: &Call, line: &str) -> Answered {
-        let (from, size) = (self.record.pointer(), self.record.bytes().len());
+        let (from, size) = (self.first.pointer(), self.first.bytes().len());
         let (words, length) = (self.pool.pointer() as *mut u32, self.pool.bytes().len() / WORD_BYTES);
         let (search, full) = (self.exports.search, self.exports.full);
         // SAFETY: pointers and lengths belong together, and the buffers are apart.
@@ -148,21 +164,23 @@ fn fields(f: ffi::ResultFields) -> [u64; 9] {
     [verdict, proof, disproof, f.allocated, f.freed, f.proved, f.disproved, f.expanded, cause]
 }
 
-fn record_of(call: &Call) -> &[u8] {
+/// What a call reads: a record or the first sheet, and moves or the second sheet.
+fn read_by(call: &Call) -> (&[u8], &[u8]) {
     match call {
         Call::Moves { record, .. }
-        | Call::Replay { record, .. }
         | Call::Search { record, .. }
         | Call::Full { record, .. }
-        | Call::Referee { record, .. } => record,
+        | Call::Referee { record, .. } => (record, &[]),
+        Call::Replay { record, moves, .. } => (record, moves),
+        Call::Sheets { first, second, .. } => (first, second),
     }
 }
 
 /// What was lent to be read is as it was, and so are the bytes around it.
-fn kept(region: &mut Region, bytes: &[u8], what: &str) -> Result<(), String> {
+fn kept(region: &mut Region, bytes: &[u8]) -> Result<(), String> {
     region.unchanged(bytes.len())?;
     if region.bytes() != bytes {
-        return Err(format!("the {} was written", what));
+        return Err("what was lent to be read was written".to_string());
     }
     Ok(())
 }

@@ -24,8 +24,12 @@ pub fn check(exports: &Exports, seconds: u32) -> Result<Option<usize>, String> {
         return Ok(None);
     };
     let tried = watch::during("a buffer longer than 4294967296", seconds, || {
-        let parts =
-            [long_records(exports, &mut long)?, long_lists(exports, &mut long)?, long_pools(exports, &mut pool)?];
+        let parts = [
+            long_records(exports, &mut long)?,
+            long_lists(exports, &mut long)?,
+            long_sheets(exports, &mut long)?,
+            long_pools(exports, &mut pool)?,
+        ];
         Ok::<Vec<Tried>, String>(parts.into_iter().flatten().collect())
     })?;
     match tried.iter().find(|(_, due, a)| (a.code, a.index) != *due) {
@@ -85,6 +89,30 @@ fn long_lists(exports: &Exports, long: &mut Region) -> Result<Vec<Tried>, String
         ("replay, moves", (15, 1), bare(list.code, list.index)),
         ("moves, output", (0, 0), bare(moves.code, moves.index)),
         ("replay, output", (0, 0), bare(replay.code, replay.index)),
+    ])
+}
+
+/// A list of 00 over and over as either sheet, with 00 alone as the other, then a long output: the opening has one
+/// move, and a length cut short would give none or refusal 7. The count stands in the index's place.
+fn long_sheets(exports: &Exports, long: &mut Region) -> Result<Vec<Tried>, String> {
+    let (one, mut out, mut numbers) = ([0], [0; LENGTH], [u32::MAX; 3]);
+    let (short, to, [first, second, third]) = (one.as_ptr(), out.as_mut_ptr(), &mut numbers);
+    long.lend_long(OVER, &[]);
+    let at = long.pointer();
+    // SAFETY: pointers and lengths belong together; what is written is apart from all else.
+    let (as_first, as_second) = unsafe {
+        let as_first = (exports.sheets)(at, OVER, short, 1, to, LENGTH, first);
+        (as_first, (exports.sheets)(short, 1, at, OVER, to, LENGTH, second))
+    };
+    long.unchanged(0)?;
+    long.lend_long(OVER, &[]);
+    // SAFETY: as above.
+    let as_output = unsafe { (exports.sheets)(short, 1, short, 1, at, OVER, third) };
+    long.unchanged(LENGTH)?;
+    Ok(vec![
+        ("sheets, first", (0, 1), bare(*first, as_first)),
+        ("sheets, second", (0, 1), bare(*second, as_second)),
+        ("sheets, output", (0, 1), bare(*third, as_output)),
     ])
 }
 

@@ -7,7 +7,7 @@
 use crate::exports::{Exports, LIBRARY};
 use uttt::ffi;
 
-pub const ALL: [(&str, Exports); 18] = [
+pub const ALL: [(&str, Exports); 30] = [
     ("moves reads a byte past the record", Exports { moves: moves_past, ..LIBRARY }),
     ("moves reads a byte before the record", Exports { moves: moves_before, ..LIBRARY }),
     ("moves counts one move more", Exports { moves: moves_more, ..LIBRARY }),
@@ -26,6 +26,18 @@ pub const ALL: [(&str, Exports); 18] = [
     ("search counts more than its budget", Exports { search: search_over, ..LIBRARY }),
     ("full verdict writes before it refuses", Exports { full: full_early, ..LIBRARY }),
     ("full verdict gives a field with a refusal", Exports { full: full_field, ..LIBRARY }),
+    ("sheets counts one move more", Exports { sheets: sheets_more, ..LIBRARY }),
+    ("sheets ends one move early", Exports { sheets: sheets_early, ..LIBRARY }),
+    ("sheets goes by the first sheet alone", Exports { sheets: sheets_first, ..LIBRARY }),
+    ("sheets reads a byte past the second sheet", Exports { sheets: sheets_past, ..LIBRARY }),
+    ("sheets writes to a short output", Exports { sheets: sheets_short, ..LIBRARY }),
+    ("sheets writes a byte past the record", Exports { sheets: sheets_beyond, ..LIBRARY }),
+    ("sheets writes no record after no moves", Exports { sheets: sheets_unwritten, ..LIBRARY }),
+    ("sheets writes past the number", Exports { sheets: sheets_wide_number, ..LIBRARY }),
+    ("sheets does not write the number 0", Exports { sheets: sheets_no_zero, ..LIBRARY }),
+    ("sheets does not write the number 7", Exports { sheets: sheets_no_seven, ..LIBRARY }),
+    ("sheets gives a count with the number 7", Exports { sheets: sheets_count, ..LIBRARY }),
+    ("sheets cuts the second sheet's length to 32 bits", Exports { sheets: sheets_cut, ..LIBRARY }),
 ];
 
 /// A legal moves with something done before it and after it.
@@ -105,6 +117,56 @@ macro_rules! full {
     };
 }
 
+/// What a call of two sheets is lent.
+#[derive(Clone, Copy)]
+struct Lent {
+    first: *const u8,
+    n: usize,
+    second: *const u8,
+    k: usize,
+    out: *mut u8,
+    room: usize,
+    number: *mut u32,
+}
+
+impl Lent {
+    unsafe fn call(self) -> u64 {
+        ffi::uttt_agreed_opening(self.first, self.n, self.second, self.k, self.out, self.room, self.number)
+    }
+}
+
+/// A call of two sheets that is done otherwise.
+macro_rules! sheets {
+    ($name:ident, |$lent:ident| $done:expr) => {
+        unsafe extern "C" fn $name(
+            first: *const u8,
+            n: usize,
+            second: *const u8,
+            k: usize,
+            out: *mut u8,
+            room: usize,
+            number: *mut u32,
+        ) -> u64 {
+            let $lent = Lent { first, n, second, k, out, room, number };
+            $done
+        }
+    };
+}
+
+/// A call of two sheets with something looked at before it and something done after it.
+macro_rules! sheets_then {
+    ($name:ident, |$lent:ident, $seen:ident, $a:ident| $before:expr, $after:expr) => {
+        sheets!($name, |$lent| {
+            #[allow(unused_variables, clippy::let_unit_value)]
+            let $seen = $before;
+            #[allow(unused_mut)]
+            let mut $a = $lent.call();
+            $after;
+            $a
+        });
+    };
+}
+
 /// Does it if the condition holds.
 macro_rules! when {
     ($holds:expr, $done:expr) => {
@@ -140,6 +202,27 @@ search!(search_over, |seen, a, words, k| (), when!(a.result.cause == 1, a.result
 
 full!(full_early, |a, words| when!(a.code == 10, *words ^= 1));
 full!(full_field, |a, words| when!(a.code > 0, a.second.cause = 1));
+
+sheets_then!(sheets_more, |lent, seen, a| (), when!(*lent.number == 0, a += 1));
+sheets_then!(sheets_past, |lent, seen, a| lent.second.wrapping_add(lent.k).read_volatile(), ());
+sheets_then!(sheets_short, |lent, seen, a| (), when!(*lent.number == 7 && lent.room > 0, *lent.out ^= 1));
+sheets_then!(sheets_beyond, |lent, seen, a| (), when!(lent.room > 21, *lent.out.add(21) ^= 1));
+sheets_then!(
+    sheets_unwritten,
+    |lent, seen, a| if lent.room > 0 { *lent.out } else { 0 },
+    when!(*lent.number == 0 && a == 0, *lent.out = seen)
+);
+sheets_then!(sheets_wide_number, |lent, seen, a| (), lent.number.add(1).write_volatile(0));
+sheets_then!(sheets_no_zero, |lent, seen, a| *lent.number, when!(*lent.number == 0, *lent.number = seen));
+sheets_then!(sheets_no_seven, |lent, seen, a| *lent.number, when!(*lent.number == 7, *lent.number = seen));
+sheets_then!(sheets_count, |lent, seen, a| (), when!(*lent.number == 7, a = lent.k as u64));
+
+sheets!(sheets_early, |lent| {
+    let shorter = (lent.call() as usize).saturating_sub(1);
+    Lent { n: shorter, k: shorter, ..lent }.call()
+});
+sheets!(sheets_first, |lent| Lent { second: lent.first, k: lent.n, ..lent }.call());
+sheets!(sheets_cut, |lent| Lent { k: lent.k as u32 as usize, ..lent }.call());
 
 unsafe extern "C" fn referee_stays(r: *const u8, n: usize, rule: u64) -> ffi::RefereeAnswer {
     let a = ffi::uttt_referee(r, n, rule);
