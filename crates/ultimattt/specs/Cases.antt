@@ -1,5 +1,5 @@
--- The cases of MANUAL, Positions to try, that are proved from the definitions, in one lemma, with ours. Rests on Calls and Searches, and on plain's
--- Cases for the records E, W and D and for the plain machine's results.
+-- The cases of MANUAL, Positions to try, that are proved from the definitions, in one lemma, with ours. Rests on Calls and Searches, on plain's Cases
+-- for the records E, W and D and for the plain machine's results, and on sheets' Cases.
 use mathlib.Core.Path.{_≡_, refl}
 use mathlib.Core.List.{List, [], _∷_, _++_}
 use Prim.Native.Nat.{ℕ, _*_}
@@ -14,6 +14,7 @@ use Rattle.plain.specs.Cases as plain-cases
 use Rattle.plain.specs.Cases.{record21, E, W, D, fields, starred}
 use Rattle.referee.specs.OpenCells.{openCells}
 use Rattle.calls.specs.Calls.{replayOutcome, refereeOutcome, afterMoves, outputRefusal, replayCall, movesCall, refereeRefusal, refereeCall}
+use Rattle.sheets.specs.Cases.{SheetsCases, sheets-cases}
 use Rattle.searches.specs.SearchAnswers.{search-answered, full-with}
 use Rattle.searches.specs.Searches.{Limits, limits, nodes, settings, searchRefusal, Refused, Answered, searchCall, fullOf, Draw, Full, Turned, fullCall}
 
@@ -84,6 +85,8 @@ pub record Cases : Type 0 where
   pub D-rule-0 : refereeCall D 0 ≡ refereeOutcome 0 0 2
   pub D-rule-1 : refereeCall D 1 ≡ refereeOutcome 0 0 2
   pub D-rule-2 : refereeCall D 2 ≡ refereeOutcome 0 0 1
+  -- two sheets: the cases of crate sheets
+  pub sheets : SheetsCases
 
 pub cases : Cases
 unfolding drawn finalValue hasLine state board boardStates gameState moveError play legalMoves replay bitAt positionOf positionRefusal refusal recordBit recordOf firstRefusal afterMoves outputRefusal replayCall movesCall openCells refereeRefusal refereeCall backward valueFrom value valueOf searchRefusal searchCall fullOf fullCall
@@ -119,4 +122,5 @@ cases = record {
   D-rule-0 = refl;
   D-rule-1 = refl;
   D-rule-2 = refl;
+  sheets = sheets-cases;
 }

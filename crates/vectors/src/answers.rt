@@ -16,6 +16,13 @@ pub enum Stored {
     Unreadable,
 }
 
+// What an answer that is no refusal has in its line: a record; a count and so many moves; a count and a record.
+pub enum Form {
+    Record,
+    Moves,
+    Opening,
+}
+
 // What became of a line.
 pub enum Outcome {
     Agreed,
@@ -57,19 +64,22 @@ fn given(s: &[u8], at: usize, bytes: u64, number: u64, want: &mut [u8]) -> Store
     ended(s, place, 0, 0, number)
 }
 
-// The answer after a place: a refusal; a count and so many moves, if counted; or a record.
-fn read_answer(s: &[u8], at: usize, counted: bool, want: &mut [u8]) -> Stored {
+// The answer after a place: a refusal, or what the form says.
+fn read_answer(s: &[u8], at: usize, form: Form, want: &mut [u8]) -> Stored {
     let w = line::next_word(s, at);
     if line::is_word(s, w, b"refused") {
         return refusal(s, w.end);
     }
-    if !counted {
+    if let Form::Record = form {
         return given(s, at, 21, 0, want);
     }
     let Number::Value(count, next) = line::read_number(s, at) else {
         return Stored::Unreadable;
     };
-    given(s, next, count, count, want)
+    if let Form::Moves = form {
+        return given(s, next, count, count, want);
+    }
+    given(s, next, 21, count, want)
 }
 
 // The answer after a place: a refusal; or a value, 1 for True and 2 for False.
@@ -157,14 +167,14 @@ fn compare(
 pub fn settle(
     s: &[u8],
     at: usize,
-    counted: bool,
+    form: Form,
     code: u64,
     index: u64,
     number: u64,
     out: &[u8; 256],
 ) -> Outcome {
     let mut want = untouched();
-    let stored = read_answer(s, at, counted, &mut want);
+    let stored = read_answer(s, at, form, &mut want);
     compare(stored, code, index, number, &want, out)
 }
 

@@ -12,10 +12,10 @@ use libc::STDIN_FILENO;
 use libc::STDOUT_FILENO;
 use line::Count;
 
-// Runs a line. It starts with the call's name and a record.
+// Runs a line. It starts with the call's name and a record, or a sheet.
 fn run_line(s: &[u8]) -> Outcome {
     let name = line::first_word(s);
-    let mut record = [0u8; 64];
+    let mut record = [0u8; 512];
     let Count::Bytes(n, place) = line::read_bytes(s, name.end, &mut record) else {
         return Outcome::Unreadable;
     };
