@@ -22,7 +22,7 @@ use record::Loaded;
 pub mod refusals;
 
 // The shortest output that takes a record, and the shortest that takes every legal move.
-const RECORD_LENGTH: usize = 21;
+pub const RECORD_LENGTH: usize = 21;
 
 const MOVES_LENGTH: usize = 81;
 

@@ -22,7 +22,7 @@ use Rattle.game.specs.declared.MoveResult.the-variants.{Ok, Err}
 use Rattle.calls.specs.Calls.{answerUnless, outputRefusal, replayOutcome, afterMoves, replayCall}
 use Rattle.calls.specs.Playing.{EndsBy, PlayedBy}
 use Rattle.sheets.specs.Sheets.{emptyGame, common, legalPart, opening, SheetsOutcome, sheetsOutcome, agreeing, sheetsCall}
-use Rattle.sheets.specs.AgreedOpening.{Begins, Legal, AgreedOpening}
+use Rattle.sheets.specs.AgreedOpening.{Begins, LegalFromEmpty, AgreedOpening}
 use Rattle.sheets.specs.Beginnings.{begins-through, begins-length, begins-take, common-none, common-begins, common-both, legal-part, legal-all, legal-bad}
 
 -- E is the record of the empty game
@@ -49,7 +49,7 @@ module _ (part out : List ℕ) (q : Position) (e : replay emptyGame part 0 ≡ R
 
 module _ (first second out : List ℕ) where
   -- what both sheets begin with and is legal is in the opening
-  opening-holds : (ms : List ℕ) → Begins ms first → Begins ms second → Legal ms → Begins ms (opening first second)
+  opening-holds : (ms : List ℕ) → Begins ms first → Begins ms second → LegalFromEmpty ms → Begins ms (opening first second)
   unfolding opening
   opening-holds ms b c l =
       let both : common first second ≡ ms ++ common (b .0) (c .0) = rw (b .1, c .1) (common-both ms (b .0) (c .0)) in

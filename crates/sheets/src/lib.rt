@@ -7,10 +7,8 @@ ghost use Rattle.game.specs.Words.{Holds};
 ghost use Rattle.sheets.specs.Sheets.{emptyGame, common, sheetsOutcome, sheetsCall};
 ghost use Rattle.sheets.specs.AgreedOpening.{AgreedOpening};
 ghost use Rattle.sheets.specs.Openings.{partCall};
+use calls::RECORD_LENGTH;
 use game::Game;
-
-// The shortest output that takes a record.
-const RECORD_LENGTH: usize = 21;
 
 // How many moves two lists begin with alike.
 fn common_length(first: &[u8], second: &[u8]) -> usize
