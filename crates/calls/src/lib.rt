@@ -1,7 +1,7 @@
 // The calls without a search: replay, legal moves, and the referee's value of a record.
 
 ghost use mathlib.Core.Path.{_≡_};
-ghost use Prim.Native.Nat.{ℕ, _≤_};
+ghost use Prim.Native.Nat.{_≤_};
 ghost use lib.ListN.{length};
 ghost use Rattle.rules.specs.Rules.{Position, legalMoves, replay};
 ghost use Rattle.rules.specs.Record.{positionOf};

@@ -1,13 +1,13 @@
 -- Laws of beginnings: the common one of two lists, and the legal one of a list, are beginnings, and none that has what is asked is longer. Rests on Sheets,
 -- AgreedOpening and the rules' Replays.
-use mathlib.Core.Path.{_≡_, refl, ap, sym, _∙_}
-use mathlib.Core.List.{List, [], _∷_, _++_, append-nil, append-assoc}
+use mathlib.Core.Path.{_≡_, refl, ap, _∙_}
+use mathlib.Core.List.{List, [], _∷_, _++_, append-assoc, append-nil}
 use Prim.Native.Nat.{ℕ, suc, _+_, _≤_, _<_}
 use native.Mathlib.Decide.{ℕ-discrete}
 use native.Mathlib.Numerals.{add-one}
 use native.Mathlib.Omega.{arith}
 use borrow.Author.Tests.{eq-eqb, ne-eqb}
-use lib.ListN.{length, getD, take, drop, length-append, take-append-drop, drop-of-length-le}
+use lib.ListN.{length, getD, take, drop, length-append, drop-of-length-le}
 use lib.Seq.{drop-cons, take-append-seam}
 use Rattle.rules.specs.Rules.{Position, moveError, play, replay}
 use Rattle.rules.specs.Rules.Replayed.{Reached}
@@ -58,6 +58,10 @@ common-within first second n e = omega (arith, e, begins-length (common first se
 pub common-both : (ms us vs : List ℕ) → common (ms ++ us) (ms ++ vs) ≡ ms ++ common us vs
 common-both [] us vs = refl
 common-both (m ∷ ms) us vs = common-same m m (ms ++ us) (ms ++ vs) refl ∙ ap (λ (l : List ℕ). m ∷ l) (common-both ms us vs)
+
+pub common-itself : (ms : List ℕ) → common ms ms ≡ ms
+unfolding common
+common-itself ms = rw (append-nil ms) at (common-both ms [] [])
 
 -- the loop over both lists: i moves are alike
 pub record Alike (first second : List ℕ) (i : ℕ) : Type 0 where

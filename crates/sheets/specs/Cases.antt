@@ -7,7 +7,7 @@ use Rattle.rules.specs.Rules.{answers, hasLine, state, board, boardStates, game
 use Rattle.rules.specs.Record.{recordBit, recordOf}
 use Rattle.rules.specs.Examples.{record21, E}
 use Rattle.calls.specs.Calls.{afterMoves}
-use Rattle.sheets.specs.Sheets.{common, legalPart, opening, SheetsOutcome, sheetsOutcome, sheetsCall}
+use Rattle.sheets.specs.Sheets.{common, legalPart, opening, sheetsOutcome, sheetsCall}
 
 -- n moves written as one number, the first its most significant byte; an output of n bytes.
 abbrev pub moves : ℕ → ℕ → List ℕ

@@ -2,4 +2,5 @@ pub mod Sheets
 pub mod AgreedOpening
 pub mod Beginnings
 pub mod Openings
+pub mod Steps
 pub mod Cases

@@ -6,7 +6,6 @@ ghost use lib.ListN.{length, take};
 ghost use Rattle.game.specs.Words.{Holds};
 ghost use Rattle.sheets.specs.Sheets.{emptyGame, common, sheetsOutcome, sheetsCall};
 ghost use Rattle.sheets.specs.AgreedOpening.{AgreedOpening};
-ghost use Rattle.sheets.specs.Openings.{partCall};
 use calls::RECORD_LENGTH;
 use game::Game;
 
@@ -40,9 +39,9 @@ struct Part {
     count: usize,
 }
 
-// Makes moves from the empty game, up to the first bad one, and writes the record after them.
+// Makes moves from the empty game, up to the first bad one, and writes the record after them: the agreed opening of a list and itself.
 fn play_legal(moves: &[u8], out: &mut [u8]) -> Part
-    ensures { λ r. ⌜ sheetsOutcome (take (r .count) (now (moves .entry))) (r .number) (now (out .exit)) ≡ partCall (now (moves .entry)) (now (out .entry)) ⌝ }
+    ensures { λ r. ⌜ sheetsOutcome (take (r .count) (now (moves .entry))) (r .number) (now (out .exit)) ≡ sheetsCall (now (moves .entry)) (now (moves .entry)) (now (out .entry)) ⌝ }
     ensures within { λ r. ⌜ r .count ≤ length (now (moves .entry)) ⌝ }
 {
     if out.len() < RECORD_LENGTH {

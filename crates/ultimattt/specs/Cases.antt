@@ -9,7 +9,7 @@ use Rattle.rules.specs.Record.{bitAt, positionOf, positionRefusal, refusal, rec
 use Rattle.rules.specs.Refusals.{firstRefusal}
 use Rattle.machine.specs.Game.{backward, valueFrom, value}
 use Rattle.machine.specs.Machine.{Result, True, False, Unknown}
-use Rattle.plain.specs.Plain.{valueOf, plainSearch}
+use Rattle.plain.specs.Plain.{valueOf}
 use Rattle.plain.specs.Cases as plain-cases
 use Rattle.plain.specs.Cases.{record21, E, W, D, fields, starred}
 use Rattle.referee.specs.OpenCells.{openCells}

@@ -1,7 +1,6 @@
 // The calls as C has them.
 
 ghost use mathlib.Core.Path.{_≡_};
-ghost use Prim.Native.Nat.{ℕ};
 ghost use lib.ListN.{length, take};
 ghost use Rattle.game.specs.Numbers.{errorNumber};
 ghost use Rattle.pn.specs.Results.{resultOf};

@@ -3,7 +3,8 @@ use mathlib.Core.Path.{refl, sym, subst}
 use lib.Seq.{length-take-le}
 use borrow.Author.Needs.{needs}
 use Rattle.sheets.specs.Beginnings.{common-within}
-use Rattle.sheets.specs.Openings.{part-called, agreed-opening}
+use Rattle.sheets.specs.Openings.{agreed-opening}
+use Rattle.sheets.specs.Steps.{common-called}
 use Rattle.sheets.specs.AgreedOpening.{AgreedOpening}
 use Rattle.sheets.proofs.agreed_opening.Statement.{statement}
 use Rattle.sheets.proofs.agreed_opening.Tie as tie
@@ -25,7 +26,7 @@ same-length c = search needs
 
 returns : tie.Need-returns
 returns c =
-    let e = part-called _ _ _ _ _ (c .before .before .before .before .before .before .common-length .ensures) (c .before .before .before .play-legal .ensures .0) in
+    let e = common-called _ _ _ _ _ (c .before .before .before .before .before .before .common-length .ensures) (c .before .before .before .play-legal .ensures .0) in
     (e, (refl, subst (AgreedOpening _ _ _) (sym e) (agreed-opening _ _ _)))
 
 pub agreed-opening-spec : {M : Type 1} → statement M

@@ -1,6 +1,6 @@
 -- `sheets::empty_game` meets its contract: its bytes are the record of the empty game. Assumes nothing.
 use borrow.Author.Needs.{needs}
-use Rattle.sheets.specs.Openings.{empty-read}
+use Rattle.sheets.specs.Steps.{empty-read}
 use Rattle.sheets.proofs.empty_game.Statement.{statement}
 use Rattle.sheets.proofs.empty_game.Tie as tie
 

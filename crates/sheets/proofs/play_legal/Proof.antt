@@ -2,12 +2,12 @@
 use native.Mathlib.Omega.{arith}
 use borrow.Author.Needs.{needs}
 use Rattle.sheets.specs.Sheets.{emptyGame}
-use Rattle.sheets.specs.Openings.{part-short, part-made, played-within}
+use Rattle.sheets.specs.Steps.{short-called, made-called, played-within}
 use Rattle.sheets.proofs.play_legal.Statement.{statement}
 use Rattle.sheets.proofs.play_legal.Tie as tie
 
 returns : tie.Need-returns
-returns c = (part-short _ _ (c .if1 .taken), omega arith)
+returns c = (short-called _ _ _ (c .if1 .taken), omega arith)
 
 line-table-requires : tie.Need-line-table-requires
 line-table-requires c κs = search needs
@@ -30,7 +30,7 @@ returns-2 : tie.Need-returns-2
 returns-2 c =
     let played = c .before .before .before .before .before .play-line .ensures emptyGame (c .before .before .before .before .before .before .before .empty-game .ensures) in
     let l = played .place in
-    (part-made _ _ _ _ _ _ played (c .before .before .before .before .before .before .before .before .before .if1 .left) (c .before .before .store .ensures (l .pos) (l .holds)), played-within _ _ _ _ _ played)
+    (made-called _ _ _ _ _ _ played (c .before .before .before .before .before .before .before .before .before .if1 .left) (c .before .before .store .ensures (l .pos) (l .holds)), played-within _ _ _ _ _ played)
 
 pub play-legal-spec : {M : Type 1} → statement M
 play-legal-spec =

@@ -1,6 +1,6 @@
 -- `ultimattt::exports::uttt_agreed_opening` meets its contract: the part is counted. Assumes nothing.
 use borrow.Author.Needs.{needs}
-use Rattle.sheets.specs.Openings.{part-counted}
+use Rattle.sheets.specs.Steps.{part-counted}
 use Rattle.ultimattt.proofs.exports.uttt_agreed_opening.Statement.{statement}
 use Rattle.ultimattt.proofs.exports.uttt_agreed_opening.Tie as tie
 
