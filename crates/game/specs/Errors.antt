@@ -5,7 +5,7 @@ use mathlib.Core.Bool.{true, false, cond, not, _&&_}
 use native.Mathlib.Omega.{arith}
 use borrow.Author.Tests.{ltb-true}
 use lib.Dec.{eqb, ltb}
-use Rattle.rules.specs.Rules.{Position, code, board, boardStates, gameState, boardOf, cellOf, leads, moveError}
+use Rattle.rules.specs.Rules.{Position, code, boardStates, gameState, boardOf, cellOf, leads, moveError}
 use Rattle.rules.specs.Tests.{both-true}
 use Rattle.rules.specs.Boards.{code-states}
 use Rattle.game.specs.Numbers.{errorNumber, resultNumber}

@@ -12,7 +12,7 @@ use Rattle.rules.specs.Rules.Player.{X, O}
 use Rattle.rules.specs.Record.{Accepted}
 use Rattle.rules.specs.LegalMoves.{Ascending, ascending, in-legal, legal-in, finished-none, unfinished-some}
 use Rattle.rules.specs.Plays.{turn-passes, one-less, count-length}
-use Rattle.rules.specs.Replays.{good-move, first-good}
+use Rattle.rules.specs.Replays.{no-move, good-move, first-good}
 use Rattle.machine.specs.Game.{backward, sequences}
 use Rattle.machine.specs.Tree.{Node, Children}
 use Rattle.machine.specs.Machine.{firstWith, standard}
@@ -92,7 +92,7 @@ sequences-listed rule root p = sequences-list (game rule root) (lawful rule root
 
 -- The sequences that N counts are the lists of moves that replay makes.
 pub legal-replay : (rule : ℕ) (root : Player) (p : Position) (ms : List ℕ) (i : ℕ) → Legal (game rule root) p ms → (q : Position) × (replay p ms i ≡ Reached q)
-legal-replay rule root p [] i h = (p, unfold replay in refl)
+legal-replay rule root p [] i h = (p, no-move p i)
 legal-replay rule root p (m ∷ ms) i h =
     let r = legal-replay rule root (play p m) ms (suc i) (h .1) in
     (r .0, good-move p m ms i (in-legal p m (h .0)) ∙ r .1)

@@ -1,11 +1,14 @@
 -- Positions to try (MANUAL): E, W and D as bytes, and a way to write a position so that its boards can be seen. Rests on Rules.
 use mathlib.Core.List.{List, [], _∷_, _++_}
-use Prim.Native.Nat.{ℕ, _-_, _/_, _%_, _^_}
+use Prim.Native.Nat.{ℕ, _+_, _-_, _/_, _%_, _^_}
 use Rattle.rules.specs.Rules.{Player, Position, answers}
 
--- The 21 bytes of a record written as one number, the first byte its most significant.
+-- Bytes written as one number, the first its most significant: so many of them, and a record's 21.
+abbrev pub bytesOf : ℕ → ℕ → List ℕ
+bytesOf n x = answers (λ k. x / 256 ^ (n - (k + 1)) % 256) 0 n
+
 abbrev pub record21 : ℕ → List ℕ
-record21 n = answers (λ k. n / 256 ^ (20 - k) % 256) 0 21
+record21 = bytesOf 21
 
 abbrev pub E : List ℕ
 E = record21 0x780000000000000000000000000000000000000000

@@ -32,7 +32,7 @@ unfolding replay
 no-move p i = refl
 
 -- moves after those that lead to q
-pub replay-append : (p : Position) (ms ns : List ℕ) (i : ℕ) (q : Position) → replay p ms i ≡ Reached q → replay p (ms ++ ns) i ≡ replay q ns (i + length ms)
+replay-append : (p : Position) (ms ns : List ℕ) (i : ℕ) (q : Position) → replay p ms i ≡ Reached q → replay p (ms ++ ns) i ≡ replay q ns (i + length ms)
 replay-append p [] ns i q e =
     let same : p ≡ q = cc (no-move p i, e) in
     let here : i ≡ i + 0 = omega arith in

@@ -1,18 +1,15 @@
 -- Two sheets of MANUAL, Positions to try, and ours, computed from the definitions. Rests on Sheets and on the rules' Examples.
 use mathlib.Core.Path.{_≡_, refl}
 use mathlib.Core.List.{List, [], _∷_, _++_}
-use Prim.Native.Nat.{ℕ, _+_, _-_, _/_, _%_, _^_}
+use Prim.Native.Nat.{ℕ}
 use lib.ListN.{replicate}
-use Rattle.rules.specs.Rules.{answers, hasLine, state, board, boardStates, gameState, moveError, play, replay}
+use Rattle.rules.specs.Rules.{hasLine, state, board, boardStates, gameState, moveError, play, replay}
 use Rattle.rules.specs.Record.{recordBit, recordOf}
-use Rattle.rules.specs.Examples.{record21, E}
+use Rattle.rules.specs.Examples.{bytesOf, record21, E}
 use Rattle.calls.specs.Calls.{afterMoves}
 use Rattle.sheets.specs.Sheets.{common, legalPart, opening, sheetsOutcome, sheetsCall}
 
--- n moves written as one number, the first its most significant byte; an output of n bytes.
-abbrev pub moves : ℕ → ℕ → List ℕ
-moves n x = answers (λ k. x / 256 ^ (n - (k + 1)) % 256) 0 n
-
+-- An output of n bytes.
 abbrev pub output : ℕ → List ℕ
 output n = replicate n 0xA5
 
@@ -44,29 +41,29 @@ afterLong = record21 0xFD32B5332CCCB32CB53334CCD4B32CB532B4CB4ACC
 -- Each field is a case.
 pub record SheetsCases : Type 0 where
   -- the manual's: they part at the third move, legal on both
-  pub parted : Opens (moves 3 0x444004) (moves 3 0x444005) (moves 2 0x4440) after4440
-  pub parted-at-once : Opens (moves 1 0x44) (moves 1 0x00) [] E
+  pub parted : Opens (bytesOf 3 0x444004) (bytesOf 3 0x444005) (bytesOf 2 0x4440) after4440
+  pub parted-at-once : Opens (bytesOf 1 0x44) (bytesOf 1 0x00) [] E
   -- equal; one the beginning of the other
-  pub equal : Opens (moves 2 0x4440) (moves 2 0x4440) (moves 2 0x4440) after4440
-  pub first-shorter : Opens (moves 2 0x4440) (moves 3 0x444003) (moves 2 0x4440) after4440
-  pub second-shorter : Opens (moves 3 0x444003) (moves 2 0x4440) (moves 2 0x4440) after4440
+  pub equal : Opens (bytesOf 2 0x4440) (bytesOf 2 0x4440) (bytesOf 2 0x4440) after4440
+  pub first-shorter : Opens (bytesOf 2 0x4440) (bytesOf 3 0x444003) (bytesOf 2 0x4440) after4440
+  pub second-shorter : Opens (bytesOf 3 0x444003) (bytesOf 2 0x4440) (bytesOf 2 0x4440) after4440
   -- no moves on one, or on both
-  pub first-empty : Opens [] (moves 1 0x44) [] E
-  pub second-empty : Opens (moves 1 0x44) [] [] E
+  pub first-empty : Opens [] (bytesOf 1 0x44) [] E
+  pub second-empty : Opens (bytesOf 1 0x44) [] [] E
   pub both-empty : Opens [] [] [] E
   -- both have the same error: 14 at move 3; 15 at move 2; 11 at once; 13 at move 6; 12 after the game
-  pub wrong-board : Opens (moves 3 0x444044) (moves 3 0x444044) (moves 2 0x4440) after4440
-  pub not-empty : Opens (moves 2 0x4444) (moves 2 0x4444) (moves 1 0x44) after44
-  pub no-cell : Opens (moves 1 0x09) (moves 1 0x09) [] E
-  pub no-board : Opens (moves 2 0xFF44) (moves 2 0xFF44) [] E
-  pub won-board : Opens (moves 6 0x011002200003) (moves 6 0x011002200003) (moves 5 0x0110022000) (record21 0xFAA001000040000000000000000000000000000000)
-  pub game-over : Opens (moves 21 won ++ (0x40 ∷ [])) (moves 21 won ++ (0x40 ∷ [])) (moves 21 won) afterWon
+  pub wrong-board : Opens (bytesOf 3 0x444044) (bytesOf 3 0x444044) (bytesOf 2 0x4440) after4440
+  pub not-empty : Opens (bytesOf 2 0x4444) (bytesOf 2 0x4444) (bytesOf 1 0x44) after44
+  pub no-cell : Opens (bytesOf 1 0x09) (bytesOf 1 0x09) [] E
+  pub no-board : Opens (bytesOf 2 0xFF44) (bytesOf 2 0xFF44) [] E
+  pub won-board : Opens (bytesOf 6 0x011002200003) (bytesOf 6 0x011002200003) (bytesOf 5 0x0110022000) (record21 0xFAA001000040000000000000000000000000000000)
+  pub game-over : Opens (bytesOf 21 won ++ (0x40 ∷ [])) (bytesOf 21 won ++ (0x40 ∷ [])) (bytesOf 21 won) afterWon
   -- 81 moves, and 90
-  pub longest-game : Opens (moves 81 long) (moves 81 long) (moves 81 long) afterLong
-  pub ninety : Opens (moves 81 long ++ replicate 9 0) (moves 81 long ++ replicate 9 0) (moves 81 long) afterLong
+  pub longest-game : Opens (bytesOf 81 long) (bytesOf 81 long) (bytesOf 81 long) afterLong
+  pub ninety : Opens (bytesOf 81 long ++ replicate 9 0) (bytesOf 81 long ++ replicate 9 0) (bytesOf 81 long) afterLong
   -- outputs of 20 and of 21 bytes, and none
-  pub output-20 : sheetsCall (moves 1 0x44) (moves 1 0x44) (output 20) ≡ sheetsOutcome [] 7 (output 20)
-  pub output-21 : sheetsCall (moves 1 0x44) (moves 1 0x44) (output 21) ≡ sheetsOutcome (moves 1 0x44) 0 after44
+  pub output-20 : sheetsCall (bytesOf 1 0x44) (bytesOf 1 0x44) (output 20) ≡ sheetsOutcome [] 7 (output 20)
+  pub output-21 : sheetsCall (bytesOf 1 0x44) (bytesOf 1 0x44) (output 21) ≡ sheetsOutcome (bytesOf 1 0x44) 0 after44
   pub no-output : sheetsCall [] [] [] ≡ sheetsOutcome [] 7 []
 
 pub sheets-cases : SheetsCases

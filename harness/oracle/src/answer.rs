@@ -2,7 +2,7 @@
 //! `all_moves` (never on a finished position, where there are none: MANUAL, The game), search by
 //! `Prover::prove`. Refusals 1 to 10 and 16 come from `calls::table`. The original has no full verdict,
 //! no referee and no agreed opening: the first is two of its searches and a name of our own (`full`), the
-//! others are our own exhaustive value (`value`) and our own walk of two lists (`opening`) over its moves.
+//! others are our own exhaustive value (`value`) and our own reading of two lists (`opening`) over its moves.
 
 use crate::game::{Game, GameState, Move, MoveError, Player};
 use crate::load;
@@ -107,7 +107,7 @@ pub fn ending(first: &[u8], second: &[u8]) -> Ending {
         (Some(_), None) => Ending::SecondEnds,
         (Some(one), Some(other)) if one != other => Ending::Difference,
         (Some(one), Some(_)) => match game.make_move(move_of(*one)) {
-            Ok(_) => unreachable!("an opening ends before no legal move of both"),
+            Ok(_) => unreachable!("an opening never ends before a legal move of both"),
             Err(error) => Ending::Error(number(error)),
         },
     }

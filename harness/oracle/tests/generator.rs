@@ -57,9 +57,8 @@ fn openings_end_in_every_way() {
             drawn.insert(opening(&first, &second).1.game_state() == GameState::Drawn);
         }
     }
-    for (ending, least) in due {
-        assert!(seen.get(&ending).is_some_and(|times| *times >= 40 * least), "{:?} of {:?}", ending, seen);
-    }
+    let often = |(ending, least): (&Ending, &u64)| seen.get(ending).is_some_and(|times| *times >= 40 * least);
+    assert!(due.iter().all(often), "{:?}", seen);
     assert_eq!(drawn, [false, true].into());
 }
 

@@ -30,7 +30,8 @@ returns-2 : tie.Need-returns-2
 returns-2 c =
     let played = c .before .before .before .before .before .play-line .ensures emptyGame (c .before .before .before .before .before .before .before .empty-game .ensures) in
     let l = played .place in
-    (made-called _ _ _ _ _ _ played (c .before .before .before .before .before .before .before .before .before .if1 .left) (c .before .before .store .ensures (l .pos) (l .holds)), played-within _ _ _ _ _ played)
+    let enough = c .before .before .before .before .before .before .before .before .before .if1 .left in
+    (made-called _ _ _ _ _ _ played enough (c .before .before .store .ensures (l .pos) (l .holds)), played-within _ _ _ _ _ played)
 
 pub play-legal-spec : {M : Type 1} → statement M
 play-legal-spec =
