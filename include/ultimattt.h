@@ -101,11 +101,14 @@ enum uttt_full {
     UTTT_FULL_AT_MOST_DRAW = 5
 };
 
-/* cause: why a search ended. */
+/*
+ * cause: why a search ended. An expansion takes a node for each child that it makes: one a legal move, in their order, up
+ * to the first that ends the game with the value that its mover wants.
+ */
 enum uttt_cause {
     UTTT_SOLVED = 0,
     UTTT_BUDGET_SPENT = 1,  /* as many expansions as the budget allows */
-    UTTT_POOL_SHORT = 2,    /* fewer free nodes in the pool than the next leaf has legal moves */
+    UTTT_POOL_SHORT = 2,    /* fewer free nodes in the pool than the next expansion would take */
     UTTT_OVER_LIMIT = 3     /* more live nodes than the limit, seen on an interval-th expansion */
 };
 

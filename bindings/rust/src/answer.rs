@@ -34,7 +34,7 @@ pub enum Cause {
     Solved,
     /// 1: as many expansions as the budget allows.
     BudgetSpent,
-    /// 2: fewer free nodes than the next leaf has legal moves.
+    /// 2: fewer free nodes than the next expansion would take: one for each child that it makes.
     PoolShort,
     /// 3: more live nodes than the limit, seen on an interval-th expansion.
     OverLimit,

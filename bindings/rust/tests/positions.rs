@@ -74,11 +74,13 @@ fn w_is_won() {
     bytes[..11].copy_from_slice(&[0x12, 0xA0, 0x00, 0xA8, 0x00, 0x28, 0x05, 0x15, 0x00, 0x05, 0x40]);
     assert_eq!(w(), bytes);
     for rule in RULES {
-        assert_eq!(line(&w(), 6, 1, rule), "True 0 2147483648 2 1 1 0 1 0");
-        let short = search(&w(), &mut pool(5), rule, &budget(1)).unwrap();
+        for nodes in [6, 5, 2] {
+            assert_eq!(line(&w(), nodes, 1, rule), "True 0 2147483648 2 1 1 0 1 0");
+        }
+        let short = search(&w(), &mut pool(1), rule, &budget(1)).unwrap();
         assert_eq!((short.verdict, short.cause), (Verdict::Unknown, Cause::PoolShort));
     }
-    let answer = full_verdict(&w(), &mut pool(6), &budget(1)).unwrap();
+    let answer = full_verdict(&w(), &mut pool(2), &budget(1)).unwrap();
     assert_eq!(answer.verdict, FullVerdict::Win);
 }
 

@@ -1,28 +1,15 @@
 -- Legal moves written from the front of an output: what the loop has written so far, and its end. Rests on the rules, game's Words and Cursor.
-use mathlib.Core.Path.{_≡_, refl, ap, sym, subst, _∙_}
-use mathlib.Core.List.{List, [], _∷_, _++_, append-assoc, append-nil, nil≢cons}
+use mathlib.Core.Path.{_≡_, refl, ap, sym, _∙_}
+use mathlib.Core.List.{List, [], _∷_, _++_, append-assoc, append-nil}
 use Prim.Native.Nat.{ℕ, suc, _+_, _-_, _<_, _≤_}
 use native.Mathlib.Numerals.{add-one}
-use native.Mathlib.Decide.{decLt}
 use native.Mathlib.Omega.{arith}
 use lib.ListN.{length, getD, drop, set, length-append, length-set}
 use lib.Seq.{drop-cons, set-at}
 use Rattle.rules.specs.Rules.{Position, legalMoves}
 use Rattle.calls.specs.Calls.{movesOutcome, listed}
 use Rattle.game.specs.Words.{Holds, Held}
-use Rattle.game.specs.Cursor.{movesFrom, moves-end, Stepped}
-use Rattle.game.specs.declared.Move.{Move}
-use Rattle.game.specs.declared.cursor.MoveIterator.{MoveIterator}
-use Rattle.game.specs.declared.cursor.Step.{Step}
-use Rattle.game.specs.declared.cursor.Step.the-variants.{Next, End}
-
--- what a step of the cursor says, by its two answers
-module _ (ws : List ℕ) (at : ℕ) (s : Step) (stepped : (p : Position) → Holds p ws 0 → Stepped p at s) where
-  pub next-is : (m : Move) (rest : MoveIterator) → s ≡ Next m rest → (p : Position) → Holds p ws 0 → (movesFrom p at ≡ m .0 ∷ movesFrom p (rest .at)) × (at < rest .at)
-  next-is m rest e p h = subst (Stepped p at) e (stepped p h)
-
-  pub end-is : s ≡ End → (p : Position) → Holds p ws 0 → movesFrom p at ≡ []
-  end-is e p h = subst (Stepped p at) e (stepped p h)
+use Rattle.game.specs.Cursor.{movesFrom, moves-within}
 
 -- n moves stand at the front of the output, and the rest of it is untouched
 pub record Written (moves out out′ : List ℕ) (n : ℕ) : Type 0 where
@@ -50,13 +37,8 @@ writing-start ws out at e = record {
 
 module _ (ws out out′ : List ℕ) (n at : ℕ) (w : Writing ws out out′ n at) (room : 81 ≤ length out) (h : Held ws 0) where
   module _ (m next : ℕ) (stepped : (p : Position) → Holds p ws 0 → (movesFrom p at ≡ m ∷ movesFrom p next) × (at < next)) where
-    -- a move is left, so the place lies within the 81
     pub writing-within : at < 81
-    writing-within = go (decLt at 81)
-      where
-        go : Dec (at < 81) → at < 81
-        go (yes l) = l
-        go (no n) = absurd (nil≢cons (sym (moves-end (h .0) at (omega arith)) ∙ stepped (h .0) (h .1) .0))
+    writing-within = moves-within (h .0) at m _ (stepped (h .0) (h .1) .0)
 
     pub writing-room : n < length out′
     writing-room = omega (arith, writing-within, w .list (h .0) (h .1) .few, w .same-length)

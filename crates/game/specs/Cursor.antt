@@ -1,14 +1,17 @@
 -- The legal moves from a place of the board on: what is left to a cursor that goes over the 81 cells in move order. Rests on the rules and Errors.
 use Prim.Native.Nat.{ℕ, suc, _+_, _*_, _-_, _/_, _%_, _<_, _≤_}
-use mathlib.Core.Path.{_≡_, refl, ap, sym, _∙_}
+use mathlib.Core.Path.{_≡_, refl, ap, sym, subst, _∙_}
 use mathlib.Core.Bool.{Bool, true, false, cond, not, _&&_}
-use mathlib.Core.List.{List, [], _∷_}
+use mathlib.Core.List.{List, [], _∷_, nil≢cons}
 use native.Mathlib.Omega.{arith}
 use native.Mathlib.Numerals.{add-one}
+use native.Mathlib.Decide.{decLt}
 use lib.Dec.{eqb}
 use Rattle.rules.specs.Rules.{Position, code, answers, boardStates, gameState, moveOf, leads, keep, playable, legalMoves}
 use Rattle.game.specs.Words.{Holds}
 use Rattle.game.specs.Errors.{cellError}
+use Rattle.game.specs.declared.Move.{Move}
+use Rattle.game.specs.declared.cursor.MoveIterator.{MoveIterator}
 use Rattle.game.specs.declared.cursor.Step.{Step}
 use Rattle.game.specs.declared.cursor.Step.the-variants.{Next, End}
 
@@ -62,6 +65,22 @@ moves-end p i h = let e : 81 - i ≡ 0 = omega arith in rw e
 abbrev pub Stepped : Position → ℕ → Step → Type 0
 Stepped p i (Next m rest) = (movesFrom p i ≡ m .0 ∷ movesFrom p (rest .at)) × (i < rest .at)
 Stepped p i End = movesFrom p i ≡ []
+
+-- what a step says, by its two answers
+module _ (ws : List ℕ) (base i : ℕ) (s : Step) (stepped : (p : Position) → Holds p ws base → Stepped p i s) where
+  pub next-is : (m : Move) (rest : MoveIterator) → s ≡ Next m rest → (p : Position) → Holds p ws base → (movesFrom p i ≡ m .0 ∷ movesFrom p (rest .at)) × (i < rest .at)
+  next-is m rest e p h = subst (Stepped p i) e (stepped p h)
+
+  pub end-is : s ≡ End → (p : Position) → Holds p ws base → movesFrom p i ≡ []
+  end-is e p h = subst (Stepped p i) e (stepped p h)
+
+-- where a move is left, the place lies within the 81
+pub moves-within : (p : Position) (i m : ℕ) (ms : List ℕ) → movesFrom p i ≡ m ∷ ms → i < 81
+moves-within p i m ms e = go (decLt i 81)
+  where
+    go : Dec (i < 81) → i < 81
+    go (yes l) = l
+    go (no n) = absurd (nil≢cons (sym (moves-end p i (omega arith)) ∙ e))
 
 -- the loop of a step, from place i₀ on: no move stands before place i
 pub record Looking (ws : List ℕ) (base i₀ i : ℕ) : Type 0 where

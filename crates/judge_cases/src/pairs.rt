@@ -85,14 +85,14 @@ fn run_ending() {
     run_pair(
         a,
         0,
-        given(10, NO_LIMIT, 100000, INTERVAL),
+        given(9, NO_LIMIT, 100000, INTERVAL),
         given(3276, NO_LIMIT, 100000, INTERVAL),
     );
     run_pair(
         a,
         0,
+        given(8, NO_LIMIT, 100000, INTERVAL),
         given(9, NO_LIMIT, 100000, INTERVAL),
-        given(10, NO_LIMIT, 100000, INTERVAL),
     );
     run_pair(
         a,
@@ -112,14 +112,14 @@ fn run_others() {
     run_pair(
         w,
         0,
-        given(6, NO_LIMIT, 1, INTERVAL),
+        given(2, NO_LIMIT, 1, INTERVAL),
         given(3276, NO_LIMIT, 100000, INTERVAL),
     );
     run_pair(
         w,
         0,
-        given(5, NO_LIMIT, 1, INTERVAL),
-        given(6, NO_LIMIT, 1, INTERVAL),
+        given(1, NO_LIMIT, 1, INTERVAL),
+        given(2, NO_LIMIT, 1, INTERVAL),
     );
     run_pair(
         d,

@@ -1,4 +1,4 @@
--- Computed cases on toy games, which tell the machine's definitions from others. Rests on Compute.
+-- Computed cases on toy games, which tell the machine's definitions from others. Rests on Compute and Asking.
 use mathlib.Core.Path.{_≡_, refl}
 use mathlib.Core.List.{List, [], _∷_}
 use mathlib.Core.Bool.{Bool, true, false, not, Bool·beq}
@@ -6,7 +6,8 @@ use Prim.Native.Nat.{ℕ, zero, suc, _-_}
 use lib.ListN.{getD}
 use Rattle.machine.specs.Game.{Game, backward, valueFrom, value, sequences}
 use Rattle.machine.specs.Tree.{Node, bound, leaf, none, child, sumPhi}
-use Rattle.machine.specs.Machine.{Settings, renumber, True, False, Unknown, Result}
+use Rattle.machine.specs.Machine.{Settings, renumber, True, False, Unknown, Result, search}
+use Rattle.machine.specs.Asking.{askingForMoves}
 use Rattle.machine.specs.Compute.{computed, printed, settings}
 
 -- A position of the toys: a number, and whether X is to move
@@ -24,14 +25,38 @@ table rows values = record {
   left = λ p. 100 - p .at;
 }
 
--- The early end: the first of three children has delta 0, so one is made, but step 3 asks for three nodes
-early-end : computed (table ((1 ∷ 2 ∷ 3 ∷ []) ∷ []) (false ∷ true ∷ true ∷ true ∷ [])) (settings 4 1000 1000 10) (record { at = 0; x = true }) ≡ printed True 0 2147483648 2 1 1 0 1 0
-unfolding computed
-early-end = refl
+-- The early end, of three moves: where the first child has delta 0 one is made, and step 3 asks for one node; where the second has, for two; where the last has, for all
+abbrev three : List Bool → Game
+three values = table ((1 ∷ 2 ∷ 3 ∷ []) ∷ []) (false ∷ values)
 
-early-short : computed (table ((1 ∷ 2 ∷ 3 ∷ []) ∷ []) (false ∷ true ∷ true ∷ true ∷ [])) (settings 3 1000 1000 10) (record { at = 0; x = true }) ≡ printed Unknown 1 1 1 0 0 0 0 2
+first-of-three : computed (three (true ∷ true ∷ true ∷ [])) (settings 2 1000 1000 10) (record { at = 0; x = true }) ≡ printed True 0 2147483648 2 1 1 0 1 0
 unfolding computed
-early-short = refl
+first-of-three = refl
+
+first-short : computed (three (true ∷ true ∷ true ∷ [])) (settings 1 1000 1000 10) (record { at = 0; x = true }) ≡ printed Unknown 1 1 1 0 0 0 0 2
+unfolding computed
+first-short = refl
+
+second-of-three : computed (three (false ∷ true ∷ false ∷ [])) (settings 3 1000 1000 10) (record { at = 0; x = true }) ≡ printed True 0 2147483648 3 2 1 0 1 0
+unfolding computed
+second-of-three = refl
+
+second-short : computed (three (false ∷ true ∷ false ∷ [])) (settings 2 1000 1000 10) (record { at = 0; x = true }) ≡ printed Unknown 1 1 1 0 0 0 0 2
+unfolding computed
+second-short = refl
+
+last-of-three : computed (three (false ∷ false ∷ true ∷ [])) (settings 4 1000 1000 10) (record { at = 0; x = true }) ≡ printed True 0 2147483648 4 3 1 0 1 0
+unfolding computed
+last-of-three = refl
+
+last-short : computed (three (false ∷ false ∷ true ∷ [])) (settings 3 1000 1000 10) (record { at = 0; x = true }) ≡ printed Unknown 1 1 1 0 0 0 0 2
+unfolding computed
+last-short = refl
+
+-- A step 3 that asks for all legal moves stops where one child would be made, with three nodes as with one
+asked-for-moves : search (three (true ∷ true ∷ true ∷ [])) (askingForMoves (three (true ∷ true ∷ true ∷ []))) (settings 3 1000 1000 10) (record { at = 0; x = true }) ≡ printed Unknown 1 1 1 0 0 0 0 2
+unfolding computed askingForMoves
+asked-for-moves = refl
 
 -- The children's order: of two that look alike the one made last is searched first, and it wins at once
 last-first : computed (table ((1 ∷ 2 ∷ []) ∷ (3 ∷ []) ∷ (4 ∷ []) ∷ []) (false ∷ false ∷ false ∷ false ∷ true ∷ [])) (settings 1000 1000 1000 10) (record { at = 0; x = true })

@@ -3,7 +3,6 @@ use mathlib.Core.List.{List, [], _∷_}
 use mathlib.Core.Bool.{Bool, true, false, _&&_, cond}
 use Prim.Native.Nat.{ℕ, zero, suc, _+_, _-_, _%_, min}
 use lib.Dec.{eqb, ltb}
-use lib.ListN.{length}
 use Rattle.machine.specs.Game.{Game}
 use Rattle.machine.specs.Tree.{Node, leaf, solved, proofOf, disproofOf, u32-max, Children, none, child, size, leastDelta, sumPhi, append}
 
@@ -52,10 +51,6 @@ hasDelta x n = eqb (n .delta) x
 abbrev pub firstWith : {Pos : Type 0} → ℕ → Children Pos → ℕ
 firstWith x ks = firstThat (hasDelta x) ks
 
--- The choice of MANUAL, Search: the first listed child whose delta equals the node's phi; as many nodes as the leaf has legal moves
-unfoldable pub standard : (G : Game) → Policy G
-standard G = record { select = λ n ks. firstWith (n .phi) ks; need = λ p. length (G .moves p) }
-
 -- Step 2: to the child at a place of the list, past those before it; and so on from the current node down while expanded
 unfoldable pub into : {Pos : Type 0} → Counts → List (Ancestor Pos) → Node Pos → Children Pos → Children Pos → ℕ → State Pos
 into c up n before none i = state c up n before
@@ -86,6 +81,10 @@ module _ (G : Game) where
 
   unfoldable pub children : G .Pos → Children (G .Pos)  -- all that step 4 makes
   children p = make p (G .moves p) none
+
+  -- The choices of MANUAL, Search: step 2 takes the first listed child whose delta equals the node's phi; step 3 asks for as many nodes as step 4 makes
+  unfoldable pub standard : Policy G
+  standard = record { select = λ n ks. firstWith (n .phi) ks; need = λ p. size (children p) }
 
   unfoldable pub opened : Node (G .Pos) → Node (G .Pos)  -- marked as expanded
   opened n = record { pos = n .pos; phi = n .phi; delta = n .delta; move = n .move; expanded = true }

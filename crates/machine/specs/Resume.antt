@@ -1,4 +1,4 @@
--- A search that its budget stopped goes on with more budget as if it had had that from the start. Rests on Runs and Reached.
+-- A search that its budget stopped goes on with more budget as if it had had that from the start. Rests on Runs and Alike.
 use mathlib.Core.Path.{_≡_, refl, ap, sym, _∙_}
 use mathlib.Core.Bool.{Bool, true, false, cond}
 use Prim.Native.Nat.{ℕ, zero, suc, _+_, _-_, _≤_}
@@ -7,6 +7,7 @@ use Rattle.machine.specs.Game.{Game}
 use Rattle.machine.specs.Tree.{solved}
 use Rattle.machine.specs.Machine.{Settings, State, root, start, Policy, toLeaf, short, round, overLimit, result, run, ends, search}
 use Rattle.machine.specs.Runs.{run-solved, run-short, run-over, run-next, Course, at-end, lacking, stopped, onward, course}
+use Rattle.machine.specs.Alike.{run-alike}
 
 -- A run that its budget stopped goes on as one with the larger budget
 module _ (G : Game) (P : Policy G) (S : Settings) where
@@ -42,21 +43,13 @@ module _ (G : Game) (P : Policy G) (S T : Settings) (h : MoreBudget S T) where
   unfolding short
   short-same s b e = rw (h .pool) e
 
-  over-same : (s : State (G .Pos)) (b : Bool) → overLimit S s ≡ b → overLimit T s ≡ b
+  over-same : (s : State (G .Pos)) → overLimit T s ≡ overLimit S s
   unfolding overLimit
-  over-same s b e = rw (h .interval, h .limit) e
+  over-same s = rw (h .interval, h .limit)
 
   -- The loop itself does not look at the budget
   pub run-same : (k : ℕ) (s : State (G .Pos)) → run G P T k s ≡ run G P S k s
-  unfolding run
-  run-same zero s = refl
-  run-same (suc k) s = go (course G P S s) (run-same k (round G P s))
-    where
-      go : Course G P S s → run G P T k (round G P s) ≡ run G P S k (round G P s) → run G P T (suc k) s ≡ run G P S (suc k) s
-      go (at-end e) f = run-solved G P T k s e ∙ sym (run-solved G P S k s e)
-      go (lacking e t) f = run-short G P T k s e (short-same _ _ t) ∙ sym (run-short G P S k s e t)
-      go (stopped e t o) f = run-over G P T k s e (short-same _ _ t) (over-same _ _ o) ∙ sym (run-over G P S k s e t o)
-      go (onward e t o) f = run-next G P T k s e (short-same _ _ t) (over-same _ _ o) ∙ f ∙ sym (run-next G P S k s e t o)
+  run-same k s = run-alike G P P (λ n ks. refl) S T (λ t. short-same t false) over-same k s (λ two t. short-same t true)
 
   -- THEOREM: where a search ended with cause 1, it goes on to where one with more budget ends
   pub resume : (p : G .Pos) → ends G P S p .1 ≡ 1 → run G P T (T .budget - S .budget) (ends G P S p .0) ≡ ends G P T p

@@ -1,16 +1,15 @@
 -- The choices of steps 2 and 3 (MANUAL, Search) are sane, so that all of Third and Reached holds of the plain machine; and of a search that starts at a finished position. Rests on Third.
 use mathlib.Core.Path.{_≡_, refl, ap}
-use mathlib.Core.List.{List, [], _∷_, map, foldr}
+use mathlib.Core.List.{List, [], _∷_}
 use mathlib.Core.Bool.{Bool, true, false, not, _||_, Bool·beq}
-use Prim.Native.Nat.{ℕ, zero, suc, _+_, _≤_, _<_}
+use Prim.Native.Nat.{ℕ, zero, suc, _<_}
 use native.Mathlib.Omega.{arith}
 use lib.Dec.{eqb}
-use lib.ListN.{length}
 use borrow.Author.Tests.{eqb-true, eqb-false}
-use Rattle.machine.specs.Game.{Game, sequences}
+use Rattle.machine.specs.Game.{Game}
 use Rattle.machine.specs.Tree.{INFINITY, Children, none, child, leastDelta, bound, leaf, solved}
 use Rattle.machine.specs.Machine.{Settings, State, Policy, firstThat, firstWith, standard, start, rootOf, root, run, ends}
-use Rattle.machine.specs.Value.{Lawful, extra, sequences-step}
+use Rattle.machine.specs.Value.{Lawful, extra}
 use Rattle.machine.specs.Place.{Infinite, UnsolvedAt, Sane}
 use Rattle.machine.specs.Rounds.{children-ok}
 use Rattle.machine.specs.Runs.{run-solved}
@@ -32,17 +31,12 @@ first-open x (child n c ks) h a b e = go (eqb (n .delta) x) refl (λ q. first-op
     go false q f = f (omega (arith, eqb-false (n .delta) x q))
 
 module _ (G : Game) (L : Lawful G) where
-  -- Each legal move begins a sequence
-  moves-most : (p : G .Pos) (ms : List ℕ) → length ms ≤ foldr _+_ 0 (map (λ m. sequences G (G .play p m)) ms)
-  moves-most p [] = omega arith
-  moves-most p (m ∷ ms) = omega (arith, moves-most p ms, sequences-step G L (G .play p m))
-
   pub standard-sane : Sane G (standard G)
   unfolding standard extra
   standard-sane = record {
     selects = λ n ks c. first-open (n .phi) ks (c .infinite) (c .phi-pos) (omega (arith, c .phi-small)) (c .phi-is);
-    covers = λ p. omega (arith, children-ok G L p .most);
-    within = λ p. moves-most p (G .moves p);
+    covers = λ p. omega arith;
+    within = λ p. omega (arith, children-ok G L p .room);
   }
 
   -- THEOREM: the third condition for the plain machine

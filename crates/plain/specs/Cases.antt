@@ -38,7 +38,9 @@ pub record Starred : Type 0 where
   pub E-fits : UnderEach (judgeWith 82 1) E (fields Unknown 1 81 82 0 0 0 1 1)
   pub E-short : UnderEach (judgeWith 81 1) E (fields Unknown 1 1 1 0 0 0 0 2)
   pub W-won : UnderEach (judgeWith 6 1) W (fields True 0 2147483648 2 1 1 0 1 0)
-  pub W-short : UnderEach (judgeWith 5 1) W (fields Unknown 1 1 1 0 0 0 0 2)
+  pub W-five : UnderEach (judgeWith 5 1) W (fields True 0 2147483648 2 1 1 0 1 0)
+  pub W-two : UnderEach (judgeWith 2 1) W (fields True 0 2147483648 2 1 1 0 1 0)
+  pub W-short : UnderEach (judgeWith 1 1) W (fields Unknown 1 1 1 0 0 0 0 2)
   pub D-rule0 : plainSearch 0 judge D ≡ fields False 2147483648 0 1 0 0 0 0 0
   pub D-rule1 : plainSearch 1 judge D ≡ fields False 2147483648 0 1 0 0 0 0 0
   pub D-rule2 : plainSearch 2 judge D ≡ fields True 0 2147483648 1 0 0 0 0 0
@@ -50,6 +52,8 @@ starred = record {
   E-fits = (refl, refl, refl);
   E-short = (refl, refl, refl);
   W-won = (refl, refl, refl);
+  W-five = (refl, refl, refl);
+  W-two = (refl, refl, refl);
   W-short = (refl, refl, refl);
   D-rule0 = refl;
   D-rule1 = refl;

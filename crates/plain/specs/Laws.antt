@@ -14,11 +14,13 @@ use Rattle.rules.specs.LegalMoves.{Ascending, ascending, in-legal, legal-in, fi
 use Rattle.rules.specs.Plays.{turn-passes, one-less, count-length}
 use Rattle.rules.specs.Replays.{no-move, good-move, first-good}
 use Rattle.machine.specs.Game.{backward, sequences}
-use Rattle.machine.specs.Tree.{Node, Children}
-use Rattle.machine.specs.Machine.{firstWith, standard}
+use Rattle.machine.specs.Tree.{Node, Children, size}
+use Rattle.machine.specs.Machine.{firstWith, children, standard}
 use Rattle.machine.specs.Value.{Lawful}
 use Rattle.machine.specs.Place.{Sane}
 use Rattle.machine.specs.Standard.{standard-sane}
+use Rattle.machine.specs.Asking.{AsksNoMore, askingForMoves}
+use Rattle.machine.specs.AskingLess.{no-more-than-moves}
 use Rattle.machine.specs.Sequences.{Distinct, Legal, Enumerates, sequences-list, sequences-count}
 use Rattle.plain.specs.Plain.{game, gameOf, policyOf, sequencesOf}
 
@@ -38,7 +40,8 @@ lawful rule root = record {
   turns = λ p m i. ap (same root) (turn-passes p m) ∙ same-other root (p .side);
 }
 
--- The choices of steps 2 and 3: they are sane, the child that step 2 takes, and how many nodes step 3 asks for. Other crates use these three alone.
+-- The choices of steps 2 and 3: they are sane, the child that step 2 takes, how many nodes step 3 asks for, and that it asks for no more than one a legal move. Other crates use
+-- these four alone.
 module _ (rule : ℕ) (root : Player) where
   pub policy-sane : Sane (game rule root) (policyOf rule root)
   unfolding policyOf
@@ -48,9 +51,13 @@ module _ (rule : ℕ) (root : Player) where
   unfolding policyOf standard
   policy-takes n ks = refl
 
-  pub policy-needs : (p : Position) → policyOf rule root .need p ≡ length (legalMoves p)
+  pub policy-needs : (p : Position) → policyOf rule root .need p ≡ size (children (game rule root) p)
   unfolding policyOf standard
   policy-needs p = refl
+
+  pub policy-asks-less : AsksNoMore (game rule root) (askingForMoves (game rule root)) (policyOf rule root)
+  unfolding policyOf
+  policy-asks-less = no-more-than-moves (game rule root) (lawful rule root)
 
 ascending-distinct : (l : List ℕ) → Ascending l → Distinct l
 ascending-distinct [] a = tt

@@ -1,4 +1,4 @@
--- Small searches with the answers that the Rust gave: the plain machine gives the same in all nine fields. They were chosen to tell wrong machines apart.
+-- Small searches with the answers that the Rust gave, steps 1 and 3 added to it: the plain machine gives the same in all nine fields. They were chosen to tell wrong machines apart.
 -- And the values and N of their positions. Rests on Cases; everything is computed.
 use mathlib.Core.Path.{_≡_, refl}
 use mathlib.Core.Bool.{true, false}
@@ -13,27 +13,27 @@ use Rattle.plain.specs.Plain.{valueOf, sequencesOf, recordValue, recordS
 use Rattle.plain.specs.Cases.{record21, settings, judgeWith, judge, fields, computedSearch, E, W, D}
 
 -- Finished: drawn with O to move, and won by X with O to move.
-abbrev drawn-o : List ℕ
+abbrev pub drawn-o : List ℕ
 drawn-o = record21 0xFAB400A80054001500054000A8002A000A80054000
 
-abbrev won-x : List ℕ
+abbrev pub won-x : List ℕ
 won-x = record21 0xFAA000A8002A001500054001400000000000000000
 
 -- Every move draws the game: X has two, O has three. In last-two X has one move, O one reply, and the game is drawn.
-abbrev last-x : List ℕ
+abbrev pub last-x : List ℕ
 last-x = record21 0x7C1495332CAC054B4AD4A20882D08450CB4C82D4AC
 
-abbrev last-o : List ℕ
+abbrev pub last-o : List ℕ
 last-o = record21 0xFA20D3128520354022ACCB5220554AB52A910CD2B4
 
-abbrev last-two : List ℕ
+abbrev pub last-two : List ℕ
 last-two = record21 0x1B2D4A20CB2A8A034CCC043492152D2352B4C84514
 
 -- Longer endings, X to move and O to move.
-abbrev ending-x : List ℕ
+abbrev pub ending-x : List ℕ
 ending-x = record21 0x7822D2CD2B352CCB12D4CB52C9534A84CCB334AD52
 
-abbrev ending-o : List ℕ
+abbrev pub ending-o : List ℕ
 ending-o = record21 0xC5132000152A001288C2D0B315404CD3228A92D0C8
 
 abbrev positions : List (List ℕ)
@@ -89,13 +89,10 @@ solved-x : (plainSearch 0 judge ending-x ≡ fields True 0 2147483650 12 11 3 3 
 unfolding computedSearch
 solved-x = (refl, refl)
 
--- Stopped with a part freed: by the budget; by a pool of 9, at a leaf of two moves with 8 live. A pool of 10 is enough for the 12 allocated, since freed nodes are free.
-spent-x :
-    (plainSearch 0 (judgeWith 3276 4) ending-x ≡ fields Unknown 1 3 8 3 0 3 4 1)
-    × (plainSearch 0 (judgeWith 9 100000) ending-x ≡ fields Unknown 1 3 11 3 0 3 6 2)
-    × (plainSearch 0 (judgeWith 10 100000) ending-x ≡ fields True 0 2147483650 12 11 3 3 7 0)
+-- Stopped by the budget with a part freed; RoomCases has the stops by the pool.
+spent-x : plainSearch 0 (judgeWith 3276 4) ending-x ≡ fields Unknown 1 3 8 3 0 3 4 1
 unfolding computedSearch
-spent-x = (refl, refl, refl)
+spent-x = refl
 
 -- Limit 4: 5 live after expansion 1 is not looked at, 6 after expansion 2 is. Limit 6: live is 6, 5 and 8 at expansions 2, 4 and 6. Limit 0: solved on the 7th,
 -- an interval-th, so cause 0.
@@ -116,13 +113,11 @@ solved-o = (refl, refl, refl)
 
 stopped-o :
     (plainSearch 1 (judgeWith 3276 7) ending-o ≡ fields Unknown 1 1 11 4 0 4 7 1)
-    × (plainSearch 1 (judgeWith 7 100000) ending-o ≡ fields Unknown 1 2 5 0 0 0 3 2)
-    × (plainSearch 1 (judgeWith 8 100000) ending-o ≡ fields Unknown 1 2 10 3 0 3 6 2)
     × (plainSearch 1 (settings 3276 4 100000 3) ending-o ≡ fields Unknown 1 2 5 0 0 0 3 3)
 unfolding computedSearch
-stopped-o = (refl, refl, refl, refl)
+stopped-o = (refl, refl)
 
 -- Solved on the first expansion with limit 0 and interval 1: cause 0. Budget and pool both too small: step 1 comes first.
-order-of-stops : (plainSearch 0 (settings 6 0 1 1) W ≡ fields True 0 2147483648 2 1 1 0 1 0) × (plainSearch 0 (judgeWith 5 0) W ≡ fields Unknown 1 1 1 0 0 0 0 1)
+order-of-stops : (plainSearch 0 (settings 6 0 1 1) W ≡ fields True 0 2147483648 2 1 1 0 1 0) × (plainSearch 0 (judgeWith 1 0) W ≡ fields Unknown 1 1 1 0 0 0 0 1)
 unfolding computedSearch
 order-of-stops = (refl, refl)

@@ -6,9 +6,9 @@ use Prim.Native.Nat.{ℕ, suc, _+_, _*_, _-_, _%_, _≤_, _<_}
 use native.Mathlib.Omega.{arith}
 use native.Mathlib.Decide.{ℕ-discrete, decLt}
 use borrow.Author.Tests.{lt-ltb, le-ltb}
-use lib.Dec.{eqb, ltb}
+use lib.Dec.{eqb}
 use lib.ListN.{length}
-use Rattle.rules.specs.Rules.{Player, Position, gameState, legalMoves, count}
+use Rattle.rules.specs.Rules.{Position, gameState, count}
 use Rattle.rules.specs.Legal.{legal}
 use Rattle.rules.specs.LegalMoves.{in-legal, moves-few}
 use Rattle.machine.specs.Game.{Game}
@@ -32,30 +32,6 @@ use Rattle.pn.specs.Going.{Going, Ranges, policyFor, settings-long}
 use Rattle.pn.specs.Ticked.{Ticked}
 use Rattle.pn.specs.declared.Settings.{Settings}
 use Rattle.pn.specs.declared.Running.{Running}
-
--- a leaf of the tree stands there, with its game in play
-pub record AtLeaf (w path ps : List ℕ) (x : Prover) : Type 0 where
-  pub rule : ℕ
-  pub side : Player
-  pub at : machine.State Position
-  pub stands : Stands rule side w path ps x at
-  pub playing : gameState (at .node .pos) ≡ 0
-
--- whether fewer nodes are free than it has legal moves
-abbrev pub Short : List ℕ → List ℕ → List ℕ → Prover → Bool → Type 0
-Short w path ps x b = (g : AtLeaf w path ps x) → b ≡ ltb (capacity w - machine.live (g .at .counts)) (length (legalMoves (g .at .node .pos)))
-
-pub shortness : (w path ps : List ℕ) (x : Prover) (g : AtLeaf w path ps x) (free cap moves : ℕ) → free ≡ cap - (x .pool .allocated - x .pool .freed) → cap ≡ capacity w
-    → moves ≡ length (legalMoves (g .at .node .pos)) → ltb free moves ≡ ltb (capacity w - machine.live (g .at .counts)) (length (legalMoves (g .at .node .pos)))
-unfolding machine.live
-shortness w path ps x g free cap moves ef ec em = rw (ef, ec, em, g .stands .tree .allocated-is, g .stands .tree .freed-is)
-
--- with 81 nodes free it is not short
-pub enough : (w path ps : List ℕ) (x : Prover) (g : AtLeaf w path ps x) (free cap : ℕ) → free ≡ cap - (x .pool .allocated - x .pool .freed) → cap ≡ capacity w → 81 ≤ free
-    → false ≡ ltb (capacity w - machine.live (g .at .counts)) (length (legalMoves (g .at .node .pos)))
-enough w path ps x g free cap ef ec l =
-    let moves = length (legalMoves (g .at .node .pos)) in
-    sym (le-ltb free moves (omega (arith, l, moves-few (g .at .node .pos)))) ∙ shortness w path ps x g free cap moves ef ec refl
 
 -- step 5 allocates nothing
 climb-allocated : (G : Game) (up : List (machine.Ancestor (G .Pos))) (c : machine.Counts) (n : Node (G .Pos)) (ks : Children (G .Pos)) → machine.climb G up c n ks .counts .allocated ≡ c .allocated

@@ -7,7 +7,7 @@ use native.Mathlib.Omega.{arith}
 use borrow.Author.Tests.{ltb-false}
 use lib.Dec.{ltb}
 use lib.ListN.{length}
-use Rattle.rules.specs.Rules.{Position, legalMoves}
+use Rattle.rules.specs.Rules.{Position}
 use Rattle.rules.specs.Record.{sideBit}
 use Rattle.machine.specs.Tree.{size, solved}
 use Rattle.machine.specs.Game.{Game, sequences}
@@ -20,12 +20,13 @@ use Rattle.words.specs.Words.{capacity}
 use Rattle.words.specs.Steps.{line-root}
 use Rattle.prover.specs.declared.Prover.{Prover}
 use Rattle.prover.specs.Stands.{Stands}
+use Rattle.room.specs.Shortness.{AtLeaf}
 use Rattle.expand.specs.Expandable.{Expandable, Expansion}
 use Rattle.expand.specs.declared.Expanded.{Expanded}
 use Rattle.climb.specs.Asks.{Climbable}
 use Rattle.pn.specs.Results.{machineSettings}
 use Rattle.pn.specs.Going.{Going, Ranges, policyFor}
-use Rattle.pn.specs.Rounding.{AtLeaf, leaf, leaf-ok, leaf-open, leaf-playing}
+use Rattle.pn.specs.Rounding.{leaf, leaf-ok, leaf-open, leaf-playing}
 use Rattle.pn.specs.declared.Settings.{Settings}
 use Rattle.pn.specs.declared.Running.{Running}
 
@@ -46,12 +47,12 @@ module _ (p : Position) (s : Settings) (w : List ℕ) where
     abbrev t : machine.State Position
     t = machine.toLeaf G P (g .at)
 
-    -- the leaf, for step 3
-    unfoldable pub to-count : AtLeaf w path′ ps′ y
-    to-count = record { rule = s .rule; side = p .side; at = _; stands = st; playing = leaf-playing p s w path ps x g ranges going unsolved more }
+    -- what step 3 asks for
+    unfoldable pub to-room : (root : ℕ) → root ≡ sideBit (p .side) → AtLeaf w path′ ps′ y (s .rule) root
+    to-room root er = record { side = p .side; attacker-is = er; at = t; stands = st; playing = leaf-playing p s w path ps x g ranges going unsolved more }
 
     -- step 3 was short, or not
-    pub short-is : (b : Bool) → b ≡ ltb (capacity w - machine.live (t .counts)) (length (legalMoves (t .node .pos))) → machine.short G P S t ≡ b
+    pub short-is : (b : Bool) → b ≡ ltb (capacity w - machine.live (t .counts)) (size (machine.children G (t .node .pos))) → machine.short G P S t ≡ b
     unfolding machine.short
     short-is b e = ap (ltb (capacity w - machine.live (t .counts))) (policy-needs (s .rule) (p .side) (t .node .pos)) ∙ sym e
 

@@ -18,7 +18,6 @@ ghost use Rattle.pn.specs.Results.{machineSettings, resultOf};
 ghost use Rattle.pn.specs.Going.{Going};
 ghost use Rattle.pn.specs.Beginning.{Startable, Begun};
 ghost use Rattle.pn.specs.Ticked.{Ticked};
-ghost use Rattle.pn.specs.Rounding.{AtLeaf, Short};
 ghost use Rattle.pn.specs.Stepping.{Steppable, Unsolved, Stepped};
 ghost use Rattle.pn.specs.Searches.{Searchable, Searched, Ran};
 use game::Game;
@@ -31,9 +30,6 @@ use positions::POSITIONS;
 use prove::Bounds;
 use prove::Evaluation;
 use prover::Prover;
-
-// No position has more legal moves.
-const MOST_MOVES: u64 = 81;
 
 // What a search is given beside its position and its pool.
 pub struct Settings {
@@ -178,21 +174,6 @@ pub fn finish(words: &[u32], path: &[u32; PLIES], s: Settings, x: Running) -> Se
     }
 }
 
-// Step 3: whether fewer nodes are free than the leaf has legal moves.
-fn is_short(words: &[u32], positions: &[u16; POSITIONS], x: Prover) -> bool
-    requires { ⌜ ((path : List ℕ) × AtLeaf (now words) path (now positions) x) ⌝ }
-    ensures { λ r. ⌜ ((path : List ℕ) → Short (now (words .entry)) path (now (positions .entry)) x r) ⌝ }
-{
-    let pool = x.pool;
-    let free_nodes = pool.free_nodes(node_pool::capacity(words) as u64);
-    if free_nodes >= MOST_MOVES {
-        return false;
-    }
-    let depth = x.depth;
-    let moves = children::count_moves(positions, positions::base(depth));
-    free_nodes < moves as u64
-}
-
 // Steps 2 to 6: down to a leaf; if it is short of nodes the search stops; expand, climb, count.
 fn round(
     table: &[u8; 512],
@@ -210,7 +191,7 @@ fn round(
     ensures { λ r. ⌜ ((u : Unsolved (now (words .entry)) (now (path .entry)) (now (positions .entry)) x s attacker) → Stepped (u .from .start) s x (now (words .entry)) (now (words .exit)) (now (path .exit)) (now (positions .exit)) r) ⌝ }
 {
     let leaf = descend::descend(table, words, path, positions, x.prover);
-    if is_short(words, positions, leaf) {
+    if room::is_short(table, words, positions, leaf, s.rule, attacker) {
         return Running {
             prover: leaf,
             tick: 0,

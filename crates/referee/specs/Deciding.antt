@@ -2,10 +2,9 @@
 -- whether the mover is the root's side, and it is the value that the mover wants. Rests on Turns, the machine's laws of value and evaluate's.
 use mathlib.Core.Path.{_≡_, refl, sym, ap, subst, _∙_}
 use mathlib.Core.Bool.{Bool, true, false, not, cond}
-use mathlib.Core.List.{List, [], List·Memᴰ, List·Memᴰ·head, List·Memᴰ·tail, List·Memᴰ·not-nil, List·Memᴰ·cases-cons, nil≢cons}
+use mathlib.Core.List.{List, List·Memᴰ, List·Memᴰ·head, List·Memᴰ·tail, List·Memᴰ·not-nil, List·Memᴰ·cases-cons}
 use mathlib.Core.Logic.{_⊎_, inl, inr, ⊎-elim}
 use Prim.Native.Nat.{ℕ, _+_, _-_, _<_}
-use native.Mathlib.Decide.{decLt}
 use native.Mathlib.Omega.{arith}
 use lib.ListN.{getD}
 use Rattle.rules.specs.Rules.{Position, same, gameState, legalMoves, moveError, play}
@@ -19,7 +18,7 @@ use Rattle.machine.specs.Value.{value-final, value-some, value-all}
 use Rattle.plain.specs.Plain.{game, valueOf}
 use Rattle.plain.specs.Laws.{lawful, root-mine}
 use Rattle.game.specs.Words.{Holds}
-use Rattle.game.specs.Cursor.{movesFrom, moves-end}
+use Rattle.game.specs.Cursor.{movesFrom, moves-within}
 use Rattle.evaluate.specs.Final.{positionVerdict}
 use Rattle.evaluate.specs.Verdicts.{verdict-open, verdict-known}
 use Rattle.referee.specs.Turns.{Turn, emptyIn, empty-is, Reply, Replied}
@@ -94,13 +93,8 @@ module _ (rule root : ℕ) (mine : Bool) (ws : List ℕ) where
             let q = play (t .position) move in
             omega (arith, empty-is (t .position) ws (t .holds), empty-is q ws′ (reply t .holds is-legal), one-less (t .position) move is-legal)
 
-        -- a move is left, so the place lies within the 81
         pub less : 81 - rest < 81 - at
-        less = go (reply t) (decLt at 81)
-          where
-            go : Reply (t .position) at ws′ rest → Dec (at < 81) → 81 - rest < 81 - at
-            go r (yes l) = omega (arith, r .ahead)
-            go r (no n) = absurd (nil≢cons (sym (moves-end (t .position) at (omega arith)) ∙ r .first))
+        less = let r = reply t in omega (arith, r .ahead, moves-within (t .position) at (r .move) _ (r .first))
 
       -- the other side's turn is answered
       module _ (v : Bool) (answer : (t : Turn ws′ root (not mine)) → v ≡ value (game rule (playerOf root)) (t .position)) where

@@ -6,3 +6,5 @@ pub mod Pools
 pub mod ThirdCondition
 pub mod TwoSearches
 pub mod RefereeAgrees
+pub mod StepThree
+pub mod NodesNeeded

@@ -7,7 +7,7 @@ use Rattle.machine.specs.Machine.{Result}
 use Rattle.plain.specs.Plain.{plainSearch}
 use Rattle.calls.specs.Calls.{answerUnless}
 use Rattle.calls.specs.Refusing.{refused-by}
-use Rattle.searches.specs.Searches.{Limits, nodes, settings, searchRefusal, Refused, Answered, searchCall, FullVerdict, fullOf, Turned, Full, fullCall}
+use Rattle.searches.specs.Searches.{Limits, nodes, settings, searchRefusal, Refused, Answered, searchCall, FullVerdict, fullOf, Turned, Full, bothResults, fullCall}
 
 module _ (bytes : List ℕ) (words rule : ℕ) (L : Limits) where
   pub search-refused : (n : ℕ) → n ≡ searchRefusal bytes (nodes words) rule L → (n ≡ 0 → ⊥) → Refused n ≡ searchCall bytes words rule L
@@ -47,3 +47,13 @@ module _ (bytes : List ℕ) (words : ℕ) (L : Limits) where
   pub full-refused : (n : ℕ) → n ≡ searchRefusal bytes (nodes words) 0 L → (n ≡ 0 → ⊥) → Turned n ≡ fullCall bytes words L
   unfolding fullCall
   full-refused n e z = refused-by Turned _ n _ e z
+
+  -- and back: it carries the machine's two results
+  pub full-carries : (v : FullVerdict) (r s : Result) → fullCall bytes words L ≡ Full v r s → (r ≡ plainSearch 1 (settings words L) bytes) × (s ≡ plainSearch 2 (settings words L) bytes)
+  unfolding fullCall
+  full-carries v r s e = go (searchRefusal bytes (nodes words) 0 L) e
+    where
+      go : (k : ℕ) → answerUnless k Turned (bothResults (plainSearch 1 (settings words L) bytes) (plainSearch 2 (settings words L) bytes)) ≡ Full v r s
+          → (r ≡ plainSearch 1 (settings words L) bytes) × (s ≡ plainSearch 2 (settings words L) bytes)
+      go zero h = (cc, cc)
+      go (suc k) h = let z : _≡_ {A = ℕ} 0 1 = cc in absurd (omega arith)

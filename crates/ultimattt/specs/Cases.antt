@@ -1,8 +1,8 @@
 -- The cases of MANUAL, Positions to try, that are proved from the definitions, in one lemma, with ours. Rests on Calls and Searches, on plain's Cases
--- for the records E, W and D and for the plain machine's results, and on sheets' Cases.
+-- for the records E, W and D and for the plain machine's results, on RoomCases and on sheets' Cases.
 use mathlib.Core.Path.{_≡_, refl}
 use mathlib.Core.List.{List, [], _∷_, _++_}
-use Prim.Native.Nat.{ℕ, _*_}
+use Prim.Native.Nat.{ℕ}
 use lib.ListN.{getD, replicate}
 use Rattle.rules.specs.Rules.{hasLine, state, board, boardStates, gameState, moveError, play, legalMoves, replay, drawn, finalValue}
 use Rattle.rules.specs.Record.{bitAt, positionOf, positionRefusal, refusal, recordBit, recordOf}
@@ -16,7 +16,9 @@ use Rattle.referee.specs.OpenCells.{openCells}
 use Rattle.calls.specs.Calls.{replayOutcome, refereeOutcome, afterMoves, outputRefusal, replayCall, movesCall, refereeRefusal, refereeCall}
 use Rattle.sheets.specs.Cases.{SheetsCases, sheets-cases}
 use Rattle.searches.specs.SearchAnswers.{search-answered, full-with}
-use Rattle.searches.specs.Searches.{Limits, limits, nodes, settings, searchRefusal, Refused, Answered, searchCall, fullOf, Draw, Full, Turned, fullCall}
+use Rattle.searches.specs.StepThree.{pool, judging}
+use Rattle.searches.specs.Searches.{Limits, nodes, settings, searchRefusal, Refused, Answered, searchCall, fullOf, Draw, Full, Turned, fullCall}
+use Rattle.ultimattt.specs.RoomCases.{RoomAnswers, room-answers}
 
 -- An output of 21 bytes, and one of 81.
 abbrev pub out21 : List ℕ
@@ -24,13 +26,6 @@ out21 = replicate 21 0
 
 abbrev pub out81 : List ℕ
 out81 = replicate 81 0
-
--- A pool of so many nodes, in words; the program judge's limit and interval, with a budget.
-abbrev pub pool : ℕ → ℕ
-pool n = n * 5
-
-abbrev pub judging : ℕ → Limits
-judging budget = limits 18446744073709551615 budget 10000
 
 -- A case that names no rule: the answer under each of the three.
 abbrev pub UnderEach : List ℕ → ℕ → Limits → Result → Type 0
@@ -58,9 +53,11 @@ pub record Cases : Type 0 where
   pub E-spent : UnderEach E (pool 3276) (judging 0) (fields Unknown 1 1 1 0 0 0 0 1)
   pub E-fits : UnderEach E (pool 82) (judging 1) (fields Unknown 1 81 82 0 0 0 1 1)
   pub E-short : UnderEach E (pool 81) (judging 1) (fields Unknown 1 1 1 0 0 0 0 2)
-  -- W with budget 1, and a pool of 6 or of 5 nodes
+  -- W with budget 1, and a pool of 6, of 5, of 2 or of 1 node
   pub W-won : UnderEach W (pool 6) (judging 1) (fields True 0 2147483648 2 1 1 0 1 0)
-  pub W-short : UnderEach W (pool 5) (judging 1) (fields Unknown 1 1 1 0 0 0 0 2)
+  pub W-five : UnderEach W (pool 5) (judging 1) (fields True 0 2147483648 2 1 1 0 1 0)
+  pub W-two : UnderEach W (pool 2) (judging 1) (fields True 0 2147483648 2 1 1 0 1 0)
+  pub W-short : UnderEach W (pool 1) (judging 1) (fields Unknown 1 1 1 0 0 0 0 2)
   -- D under rules 0, 1 and 2; its full verdict, a draw
   pub D-0-False : searchCall D (pool 3276) 0 (judging 100000) ≡ Answered (fields False 2147483648 0 1 0 0 0 0 0)
   pub D-1-False : searchCall D (pool 3276) 1 (judging 100000) ≡ Answered (fields False 2147483648 0 1 0 0 0 0 0)
@@ -85,6 +82,8 @@ pub record Cases : Type 0 where
   pub D-rule-0 : refereeCall D 0 ≡ refereeOutcome 0 0 2
   pub D-rule-1 : refereeCall D 1 ≡ refereeOutcome 0 0 2
   pub D-rule-2 : refereeCall D 2 ≡ refereeOutcome 0 0 1
+  -- ours: step 3 at small pools, with the fewest nodes that a search answers with, and one less
+  pub room : RoomAnswers
   -- two sheets: the cases of crate sheets
   pub sheets : SheetsCases
 
@@ -104,7 +103,9 @@ cases = record {
   E-fits = under-each E (pool 82) (judging 1) _ refl refl refl (starred .E-fits);
   E-short = under-each E (pool 81) (judging 1) _ refl refl refl (starred .E-short);
   W-won = under-each W (pool 6) (judging 1) _ refl refl refl (starred .W-won);
-  W-short = under-each W (pool 5) (judging 1) _ refl refl refl (starred .W-short);
+  W-five = under-each W (pool 5) (judging 1) _ refl refl refl (starred .W-five);
+  W-two = under-each W (pool 2) (judging 1) _ refl refl refl (starred .W-two);
+  W-short = under-each W (pool 1) (judging 1) _ refl refl refl (starred .W-short);
   D-0-False = search-answered D (pool 3276) 0 (judging 100000) refl _ (starred .D-rule0);
   D-1-False = search-answered D (pool 3276) 1 (judging 100000) refl _ (starred .D-rule1);
   D-2-True = search-answered D (pool 3276) 2 (judging 100000) refl _ (starred .D-rule2);
@@ -122,5 +123,6 @@ cases = record {
   D-rule-0 = refl;
   D-rule-1 = refl;
   D-rule-2 = refl;
+  room = room-answers;
   sheets = sheets-cases;
 }

@@ -1,3 +1,4 @@
+pub mod RoomCases
 pub mod Cases
 pub mod Exports
 pub mod TwoAnswers

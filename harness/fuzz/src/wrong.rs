@@ -7,7 +7,7 @@
 use crate::exports::{Exports, LIBRARY};
 use uttt::ffi;
 
-pub const ALL: [(&str, Exports); 30] = [
+pub const ALL: [(&str, Exports); 31] = [
     ("moves reads a byte past the record", Exports { moves: moves_past, ..LIBRARY }),
     ("moves reads a byte before the record", Exports { moves: moves_before, ..LIBRARY }),
     ("moves counts one move more", Exports { moves: moves_more, ..LIBRARY }),
@@ -24,6 +24,7 @@ pub const ALL: [(&str, Exports); 30] = [
     ("search says True too early", Exports { search: search_true, ..LIBRARY }),
     ("search refuses with 7", Exports { search: search_seven, ..LIBRARY }),
     ("search counts more than its budget", Exports { search: search_over, ..LIBRARY }),
+    ("search stops short with room for any leaf", Exports { search: search_short, ..LIBRARY }),
     ("full verdict writes before it refuses", Exports { full: full_early, ..LIBRARY }),
     ("full verdict gives a field with a refusal", Exports { full: full_field, ..LIBRARY }),
     ("sheets counts one move more", Exports { sheets: sheets_more, ..LIBRARY }),
@@ -199,6 +200,7 @@ search!(search_past, |seen, a, words, k| (), when!(a.code == 0, *words.add(k) ^=
 search!(search_true, |seen, a, words, k| (), when!(a.result.cause > 0, a.result.verdict = 1));
 search!(search_seven, |seen, a, words, k| (), when!(a.code == 8, a.code = 7));
 search!(search_over, |seen, a, words, k| (), when!(a.result.cause == 1, a.result.expanded += 1));
+search!(search_short, |seen, a, words, k| (), when!(a.result.cause == 1, a.result.cause = 2));
 
 full!(full_early, |a, words| when!(a.code == 10, *words ^= 1));
 full!(full_field, |a, words| when!(a.code > 0, a.second.cause = 1));

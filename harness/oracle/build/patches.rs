@@ -66,7 +66,8 @@ pub const PATCHES: &[Patch] = &[
             budget: u64::MAX,
             interval: 10000,",
     ),
-    // Steps 1 and 3 (MANUAL, Search), before and after step 2.
+    // Steps 1 and 3 (MANUAL, Search). At step 3 the original makes the leaf's children. If the pool has not so
+    // many nodes the search ends before the climb, and only the two counts have to be set back.
     patch(
         "step 1",
         PN,
@@ -81,12 +82,14 @@ pub const PATCHES: &[Patch] = &[
         "step 3",
         PN,
         "self.expand(next);",
-        "let free = self.config.pool - self.nodes.stats.live() as u64;
-            if free < self.cursor.position(next).all_moves().count() as u64 {
+        "let allocated = self.nodes.stats.allocated.get();
+            self.expand(next);
+            if self.nodes.stats.live() as u64 > self.config.pool {
+                self.nodes.stats.allocated.set(allocated);
+                self.stats.expanded -= 1;
                 self.cause = 2;
                 break;
-            }
-            self.expand(next);",
+            }",
     ),
     patch("cause 3", PN, ".unwrap_or(false) {", ".unwrap_or(false) {\n                    self.cause = 3;"),
     // Draw rules 1 and 2: whether a drawn position is False.

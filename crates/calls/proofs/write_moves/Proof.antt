@@ -2,7 +2,8 @@
 use Prim.Native.Nat.{_-_}
 use native.Mathlib.Omega.{arith}
 use borrow.Author.Needs.{needs}
-use Rattle.calls.specs.Writing.{Writing, next-is, end-is, writing-start, writing-room, writing-step, writing-less, writing-done}
+use Rattle.game.specs.Cursor.{next-is, end-is}
+use Rattle.calls.specs.Writing.{Writing, writing-start, writing-room, writing-step, writing-less, writing-done}
 use Rattle.calls.proofs.write_moves.Statement.{statement}
 use Rattle.calls.proofs.write_moves.Tie as tie
 
@@ -25,16 +26,16 @@ enum-known-step : tie.Need-enum-known-step Inv-loop μ-loop
 enum-known-step c = search needs
 
 slice-write-out : tie.Need-slice-write-out Inv-loop μ-loop
-slice-write-out c = writing-room _ _ _ _ _ (c .before .before .before .before .loop .inv) (c .before .before .before .before .before .before .before .before .pre .2) (c .before .before .before .before .before .before .before .before .pre .1) _ _ (next-is _ _ _ (c .before .before .before .next .ensures) _ _ (c .before .step .given .1))
+slice-write-out c = writing-room _ _ _ _ _ (c .before .before .before .before .loop .inv) (c .before .before .before .before .before .before .before .before .pre .2) (c .before .before .before .before .before .before .before .before .pre .1) _ _ (next-is _ _ _ _ (c .before .before .before .next .ensures) _ _ (c .before .step .given .1))
 
 add-n : tie.Need-add-n Inv-loop μ-loop
-add-n c = omega (arith, writing-room _ _ _ _ _ (c .before .before .before .before .loop .inv) (c .before .before .before .before .before .before .before .before .pre .2) (c .before .before .before .before .before .before .before .before .pre .1) _ _ (next-is _ _ _ (c .before .before .before .next .ensures) _ _ (c .before .step .given .1)))
+add-n c = omega (arith, writing-room _ _ _ _ _ (c .before .before .before .before .loop .inv) (c .before .before .before .before .before .before .before .before .pre .2) (c .before .before .before .before .before .before .before .before .pre .1) _ _ (next-is _ _ _ _ (c .before .before .before .next .ensures) _ _ (c .before .step .given .1)))
 
 loop-less : tie.Need-loop-less Inv-loop μ-loop
-loop-less c = writing-less _ _ _ _ _ (c .before .before .before .before .loop .inv) (c .before .before .before .before .before .before .before .before .pre .2) (c .before .before .before .before .before .before .before .before .pre .1) _ _ (next-is _ _ _ (c .before .before .before .next .ensures) _ _ (c .before .step .given .1))
+loop-less c = writing-less _ _ _ _ _ (c .before .before .before .before .loop .inv) (c .before .before .before .before .before .before .before .before .pre .2) (c .before .before .before .before .before .before .before .before .pre .1) _ _ (next-is _ _ _ _ (c .before .before .before .next .ensures) _ _ (c .before .step .given .1))
 
 loop-again : tie.Need-loop-again Inv-loop μ-loop
-loop-again c = writing-step _ _ _ _ _ (c .before .before .before .before .loop .inv) (c .before .before .before .before .before .before .before .before .pre .2) (c .before .before .before .before .before .before .before .before .pre .1) _ _ (next-is _ _ _ (c .before .before .before .next .ensures) _ _ (c .before .step .given .1))
+loop-again c = writing-step _ _ _ _ _ (c .before .before .before .before .loop .inv) (c .before .before .before .before .before .before .before .before .pre .2) (c .before .before .before .before .before .before .before .before .pre .1) _ _ (next-is _ _ _ _ (c .before .before .before .next .ensures) _ _ (c .before .step .given .1))
 
 enum-told : tie.Need-enum-told Inv-loop μ-loop
 enum-told c = search needs
@@ -43,7 +44,7 @@ same-length : tie.Need-same-length Inv-loop μ-loop
 same-length c = c .before .before .before .loop .inv .same-length
 
 returns : tie.Need-returns Inv-loop μ-loop
-returns c p h = writing-done _ _ _ _ _ (c .before .before .before .loop .inv) (end-is _ _ _ (c .before .before .next .ensures) (c .enum-told .given .1)) p h
+returns c p h = writing-done _ _ _ _ _ (c .before .before .before .loop .inv) (end-is _ _ _ _ (c .before .before .next .ensures) (c .enum-told .given .1)) p h
 
 pub write-moves-spec : {M : Type 1} → statement M
 write-moves-spec =

@@ -3,7 +3,7 @@ use mathlib.Core.Path.{refl, _∙_}
 use Rattle.machine.specs.Machine as machine
 use Rattle.words.specs.Words.{beyond-trans}
 use Rattle.pn.specs.Rounding.{to-search, tick-left, freed-fewer}
-use Rattle.pn.specs.Steps.{to-count, short-is, to-expand, to-climb}
+use Rattle.pn.specs.Steps.{to-room, short-is, to-expand, to-climb}
 use Rattle.pn.specs.Stepping.{stepped-short, stepped-on}
 use borrow.Author.Needs.{needs}
 use Rattle.pn.proofs.round.Statement.{statement}
@@ -35,51 +35,51 @@ is-short-requires c κs =
     let d = c .before .before in
     let u = call d .pre .1 .1 in
     let st = d .descend .ensures (to-search _ _ _ _ _ _ (u .from .going) (u .from .ranges) (u .from .on)) (u .unsolved) in
-    (_, to-count _ _ _ _ _ _ (u .from .going) (u .from .ranges) (u .from .on) (u .unsolved) (u .more) _ _ _ st)
+    (call d .pre .1 .0, (_, to-room _ _ _ _ _ _ (u .from .going) (u .from .ranges) (u .from .on) (u .unsolved) (u .more) _ _ _ st _ (u .from .root-is)))
 
 same-length : tie.Need-same-length
 same-length c = search needs
 
 returns : tie.Need-returns
-unfolding to-search to-count
+unfolding to-search to-room
 returns c = (
   call (down (c .before)) .pre .0,
   λ u.
       let st = down (c .before) .descend .ensures (to-search _ _ _ _ _ _ (u .from .going) (u .from .ranges) (u .from .on)) (u .unsolved) in
-      let leaf = to-count _ _ _ _ _ _ (u .from .going) (u .from .ranges) (u .from .on) (u .unsolved) (u .more) _ _ _ st in
+      let leaf = to-room _ _ _ _ _ _ (u .from .going) (u .from .ranges) (u .from .on) (u .unsolved) (u .more) _ _ _ st _ (u .from .root-is) in
       let test = c .before .is-short .ensures _ leaf in
       let short = short-is _ _ _ _ _ _ (u .from .going) (u .from .ranges) (u .from .on) (u .unsolved) (u .more) _ _ _ st _ test ∙ c .if1 .taken in
       stepped-short u _ _ _ st short refl refl,
 )
 
 expand-requires : tie.Need-expand-requires
-unfolding to-search to-count
+unfolding to-search to-room
 expand-requires c κs =
     let e = c .before .before .before in
     let d = down (e .before) in
     let u = call d .pre .1 .1 in
     let st = d .descend .ensures (to-search _ _ _ _ _ _ (u .from .going) (u .from .ranges) (u .from .on)) (u .unsolved) in
-    let leaf = to-count _ _ _ _ _ _ (u .from .going) (u .from .ranges) (u .from .on) (u .unsolved) (u .more) _ _ _ st in
+    let leaf = to-room _ _ _ _ _ _ (u .from .going) (u .from .ranges) (u .from .on) (u .unsolved) (u .more) _ _ _ st _ (u .from .root-is) in
     let test = e .before .is-short .ensures _ leaf in
     let short = short-is _ _ _ _ _ _ (u .from .going) (u .from .ranges) (u .from .on) (u .unsolved) (u .more) _ _ _ st _ test ∙ e .if1 .left in
     (call d .pre .1 .0, to-expand _ _ _ _ _ _ (u .from .going) (u .from .ranges) (u .from .on) (u .unsolved) (u .more) _ _ _ st short _ (u .from .root-is))
 
 climb-requires : tie.Need-climb-requires
-unfolding to-search to-count to-expand
+unfolding to-search to-room to-expand
 climb-requires c κs =
     let x = c .before .before .before .before .before in
     let e = on x in
     let d = down (e .before) in
     let u = call d .pre .1 .1 in
     let st = d .descend .ensures (to-search _ _ _ _ _ _ (u .from .going) (u .from .ranges) (u .from .on)) (u .unsolved) in
-    let leaf = to-count _ _ _ _ _ _ (u .from .going) (u .from .ranges) (u .from .on) (u .unsolved) (u .more) _ _ _ st in
+    let leaf = to-room _ _ _ _ _ _ (u .from .going) (u .from .ranges) (u .from .on) (u .unsolved) (u .more) _ _ _ st _ (u .from .root-is) in
     let test = e .before .is-short .ensures _ leaf in
     let short = short-is _ _ _ _ _ _ (u .from .going) (u .from .ranges) (u .from .on) (u .unsolved) (u .more) _ _ _ st _ test ∙ e .if1 .left in
     let ex = to-expand _ _ _ _ _ _ (u .from .going) (u .from .ranges) (u .from .on) (u .unsolved) (u .more) _ _ _ st short _ (u .from .root-is) in
     (call d .pre .0, to-climb _ _ _ _ _ _ (u .from .going) (u .from .ranges) (u .from .on) (u .unsolved) (u .more) _ _ _ st short _ _ (x .expand .ensures ex))
 
 tick-requires : tie.Need-tick-requires
-unfolding to-search to-count to-expand to-climb machine.round
+unfolding to-search to-room to-expand to-climb machine.round
 tick-requires c κs =
     let m = c .before .before in
     let x = grown m in
@@ -87,7 +87,7 @@ tick-requires c κs =
     let d = down (e .before) in
     let u = call d .pre .1 .1 in
     let st = d .descend .ensures (to-search _ _ _ _ _ _ (u .from .going) (u .from .ranges) (u .from .on)) (u .unsolved) in
-    let leaf = to-count _ _ _ _ _ _ (u .from .going) (u .from .ranges) (u .from .on) (u .unsolved) (u .more) _ _ _ st in
+    let leaf = to-room _ _ _ _ _ _ (u .from .going) (u .from .ranges) (u .from .on) (u .unsolved) (u .more) _ _ _ st _ (u .from .root-is) in
     let test = e .before .is-short .ensures _ leaf in
     let short = short-is _ _ _ _ _ _ (u .from .going) (u .from .ranges) (u .from .on) (u .unsolved) (u .more) _ _ _ st _ test ∙ e .if1 .left in
     let ex = to-expand _ _ _ _ _ _ (u .from .going) (u .from .ranges) (u .from .on) (u .unsolved) (u .more) _ _ _ st short _ (u .from .root-is) in
@@ -101,7 +101,7 @@ same-length-2 : tie.Need-same-length-2
 same-length-2 c = search needs
 
 returns-2 : tie.Need-returns-2
-unfolding to-search to-count to-expand to-climb machine.round
+unfolding to-search to-room to-expand to-climb machine.round
 returns-2 c = (
   c .before .before .before .climb .ensures .0,
   λ u.
@@ -110,7 +110,7 @@ returns-2 c = (
       let e = on x in
       let d = down (e .before) in
       let st = d .descend .ensures (to-search _ _ _ _ _ _ (u .from .going) (u .from .ranges) (u .from .on)) (u .unsolved) in
-      let leaf = to-count _ _ _ _ _ _ (u .from .going) (u .from .ranges) (u .from .on) (u .unsolved) (u .more) _ _ _ st in
+      let leaf = to-room _ _ _ _ _ _ (u .from .going) (u .from .ranges) (u .from .on) (u .unsolved) (u .more) _ _ _ st _ (u .from .root-is) in
       let test = e .before .is-short .ensures _ leaf in
       let short = short-is _ _ _ _ _ _ (u .from .going) (u .from .ranges) (u .from .on) (u .unsolved) (u .more) _ _ _ st _ test ∙ e .if1 .left in
       let ex = to-expand _ _ _ _ _ _ (u .from .going) (u .from .ranges) (u .from .on) (u .unsolved) (u .more) _ _ _ st short _ (u .from .root-is) in
