@@ -73,12 +73,12 @@ module _ {ws : List ℕ} {base attacker : ℕ} (l : Countable ws base attacker) 
       ap (λ (k : ℕ). eqb k attacker) (r .side-is) ∙ ap (eqb (sideBit (p .side))) (l .attacker-is) ∙ sides (l .side) (p .side)
       ∙ sym (and-after rule (l .side) p m e ∙ Bool·not-not (same (l .side) (p .side)))
 
-  pub ends-is : (rule : ℕ) (v : Verdict) (b c : ℕ) → b ≡ boardOf m → c ≡ cellOf m → v ≡ view (game rule (playerOf attacker)) .value (play p (moveOf b c)) → (phi delta : ℕ)
-      → LeafBounds v (eqb (o .side) attacker) phi delta → eqb delta 0 ≡ eqb (leaf (game rule (l .side)) (play p m) m .delta) 0
-  ends-is rule v b c eb ec ev phi delta n =
+  pub ends-is : (rule : ℕ) (v : Verdict) (b c : ℕ) → b ≡ boardOf m → c ≡ cellOf m → v ≡ view (game rule (playerOf attacker)) .value (play p (moveOf b c))
+      → (and : Bool) (phi delta : ℕ) → LeafBounds v and phi delta → and ≡ eqb (o .side) attacker → eqb delta 0 ≡ eqb (leaf (game rule (l .side)) (play p m) m .delta) 0
+  ends-is rule v b c eb ec ev and phi delta n ea =
       let w : v ≡ view (game rule (l .side)) .value (play p m) =
       ev ∙ rw (eb, ec, again) refl ∙ ap (λ (s : Player). view (game rule s) .value (play p m)) (ap playerOf (l .attacker-is) ∙ side-back (l .side)) in
-      ap (λ (d : ℕ). eqb d 0) (n rule (l .side) (play p m) m w (attacker-moves rule) .delta-is)
+      ap (λ (d : ℕ). eqb d 0) (n rule (l .side) (play p m) m w (ea ∙ attacker-moves rule) .delta-is)
 
 -- The loop at place i of the board: n children are made, and none of them has delta 0
 pub record Counting {ws : List ℕ} {base attacker : ℕ} (l : Countable ws base attacker) (rule n i : ℕ) : Type 0 where

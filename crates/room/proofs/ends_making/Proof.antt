@@ -1,4 +1,5 @@
 -- `room::ends_making` meets its contract: the child's numbers by its evaluation. Assumes nothing.
+use mathlib.Core.Path.{refl}
 use native.Mathlib.Omega.{arith}
 use borrow.Author.Needs.{needs}
 use Rattle.rules.specs.Legal.{legal}
@@ -45,7 +46,7 @@ returns c l r e =
     let b = m .before .global .ensures .0 in
     let cell = place .local .ensures .0 in
     let k = made-child l _ r _ e _ _ _ _ b cell (m .mine-bits .ensures _ (l .holds) (r .side-is)) (t .taken-bits .ensures .0 _ (l .holds)) in
-    ends-is l _ r _ e _ _ _ _ b cell (v .child-value .ensures _ k) _ _ (c .before .leaf-bounds .ensures)
+    ends-is l _ r _ e _ _ _ _ b cell (v .child-value .ensures _ k) _ _ _ (c .before .leaf-bounds .ensures) refl
 
 pub ends-making-spec : {M : Type 1} → statement M
 ends-making-spec =
