@@ -1,4 +1,4 @@
--- Computed cases on toy games, which tell the machine's definitions from others. Rests on Compute and Asking.
+-- Computed cases on toy games, which tell the machine's definitions from others. Rests on Compute and Needs.
 use mathlib.Core.Path.{_≡_, refl}
 use mathlib.Core.List.{List, [], _∷_}
 use mathlib.Core.Bool.{Bool, true, false, not, Bool·beq}
@@ -7,7 +7,7 @@ use lib.ListN.{getD}
 use Rattle.machine.specs.Game.{Game, backward, valueFrom, value, sequences}
 use Rattle.machine.specs.Tree.{Node, bound, leaf, none, child, sumPhi}
 use Rattle.machine.specs.Machine.{Settings, renumber, True, False, Unknown, Result, search}
-use Rattle.machine.specs.Asking.{askingForMoves}
+use Rattle.machine.specs.Needs.{askingForMoves}
 use Rattle.machine.specs.Compute.{computed, printed, settings}
 
 -- A position of the toys: a number, and whether X is to move
@@ -28,6 +28,10 @@ table rows values = record {
 -- The early end, of three moves: where the first child has delta 0 one is made, and step 3 asks for one node; where the second has, for two; where the last has, for all
 abbrev three : List Bool → Game
 three values = table ((1 ∷ 2 ∷ 3 ∷ []) ∷ []) (false ∷ values)
+
+early-end : computed (three (true ∷ true ∷ true ∷ [])) (settings 4 1000 1000 10) (record { at = 0; x = true }) ≡ printed True 0 2147483648 2 1 1 0 1 0
+unfolding computed
+early-end = refl
 
 first-of-three : computed (three (true ∷ true ∷ true ∷ [])) (settings 2 1000 1000 10) (record { at = 0; x = true }) ≡ printed True 0 2147483648 2 1 1 0 1 0
 unfolding computed

@@ -2,7 +2,7 @@
 pub mod Game
 pub mod Tree
 pub mod Machine
-pub mod Asking
+pub mod Needs
 pub mod Compute
 pub mod Cases
 pub mod Value
@@ -13,11 +13,11 @@ pub mod Descent
 pub mod Climb
 pub mod Rounds
 pub mod Runs
-pub mod Alike
+pub mod RunsAlike
 pub mod Reached
 pub mod Unheld
 pub mod Resume
-pub mod AskingLess
+pub mod NeedsLess
 pub mod Third
 pub mod Standard
 pub mod Witness

@@ -1,4 +1,4 @@
--- A search that its budget stopped goes on with more budget as if it had had that from the start. Rests on Runs and Alike.
+-- A search that its budget stopped goes on with more budget as if it had had that from the start. Rests on Runs and RunsAlike.
 use mathlib.Core.Path.{_≡_, refl, ap, sym, _∙_}
 use mathlib.Core.Bool.{Bool, true, false, cond}
 use Prim.Native.Nat.{ℕ, zero, suc, _+_, _-_, _≤_}
@@ -7,7 +7,7 @@ use Rattle.machine.specs.Game.{Game}
 use Rattle.machine.specs.Tree.{solved}
 use Rattle.machine.specs.Machine.{Settings, State, root, start, Policy, toLeaf, short, round, overLimit, result, run, ends, search}
 use Rattle.machine.specs.Runs.{run-solved, run-short, run-over, run-next, Course, at-end, lacking, stopped, onward, course}
-use Rattle.machine.specs.Alike.{run-alike}
+use Rattle.machine.specs.RunsAlike.{run-alike}
 
 -- A run that its budget stopped goes on as one with the larger budget
 module _ (G : Game) (P : Policy G) (S : Settings) where

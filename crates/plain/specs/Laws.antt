@@ -19,8 +19,8 @@ use Rattle.machine.specs.Machine.{firstWith, children, standard}
 use Rattle.machine.specs.Value.{Lawful}
 use Rattle.machine.specs.Place.{Sane}
 use Rattle.machine.specs.Standard.{standard-sane}
-use Rattle.machine.specs.Asking.{AsksNoMore, askingForMoves}
-use Rattle.machine.specs.AskingLess.{no-more-than-moves}
+use Rattle.machine.specs.Needs.{AsksNoMore, askingForMoves}
+use Rattle.machine.specs.NeedsLess.{no-more-than-moves}
 use Rattle.machine.specs.Sequences.{Distinct, Legal, Enumerates, sequences-list, sequences-count}
 use Rattle.plain.specs.Plain.{game, gameOf, policyOf, sequencesOf}
 

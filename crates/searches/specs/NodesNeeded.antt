@@ -8,8 +8,8 @@ use Rattle.rules.specs.Record.{bitAt, positionOf, positionRefusal, refusal}
 use Rattle.rules.specs.Refusals.{firstRefusal}
 use Rattle.rules.specs.Examples.{W}
 use Rattle.machine.specs.Machine.{Settings, Result}
-use Rattle.machine.specs.Asking.{askingForMoves}
-use Rattle.machine.specs.AskingLess.{asking-less}
+use Rattle.machine.specs.Needs.{askingForMoves}
+use Rattle.machine.specs.NeedsLess.{asking-less}
 use Rattle.plain.specs.Plain.{gameOf, policyOf, searchOf, plainSearch}
 use Rattle.plain.specs.Laws.{policy-needs, policy-asks-less}
 use Rattle.plain.specs.Cases as plain-cases

@@ -8,7 +8,7 @@ use Rattle.rules.specs.Record.{positionOf}
 use Rattle.rules.specs.Examples.{W}
 use Rattle.machine.specs.Tree.{size}
 use Rattle.machine.specs.Machine.{Settings, Result, True, Unknown, children, search}
-use Rattle.machine.specs.Asking.{askingForMoves}
+use Rattle.machine.specs.Needs.{askingForMoves}
 use Rattle.plain.specs.Plain.{game, gameOf, policyOf, recordSequences}
 use Rattle.plain.specs.Cases.{fields}
 use Rattle.calls.specs.Calls.{lastRule}

@@ -1,5 +1,5 @@
--- Where step 3 asks for no more nodes, only results with cause 2 can change: for any two policies that choose the same child, and of the plain machine against the one that asks for a
--- node a legal move. Rests on Asking, Alike and Rounds.
+-- Where step 3 asks for no more nodes, only results with cause 2 can change: of any two policies that choose the same child, and of the plain machine against the one that asks for a
+-- node for each legal move. Rests on Needs, RunsAlike and Rounds.
 use mathlib.Core.Path.{_≡_, refl, ap}
 use mathlib.Core.Bool.{false}
 use Prim.Native.Nat.{_-_}
@@ -9,8 +9,8 @@ use Rattle.machine.specs.Game.{Game}
 use Rattle.machine.specs.Machine.{Settings, live, State, start, Policy, standard, short, result, ends, search}
 use Rattle.machine.specs.Value.{Lawful}
 use Rattle.machine.specs.Rounds.{children-ok}
-use Rattle.machine.specs.Alike.{run-alike}
-use Rattle.machine.specs.Asking.{AsksNoMore, askingForMoves}
+use Rattle.machine.specs.RunsAlike.{run-alike}
+use Rattle.machine.specs.Needs.{AsksNoMore, askingForMoves}
 
 module _ (G : Game) (P Q : Policy G) (h : AsksNoMore G P Q) (S : Settings) where
   not-short : (s : State (G .Pos)) → short G P S s ≡ false → short G Q S s ≡ false

@@ -1,4 +1,4 @@
--- Two ways of asking for nodes in step 3, and the plain machine's as it was before it looked ahead. Definitions alone; AskingLess has what follows. Rests on Machine.
+-- What step 3 asks for: two policies that differ in it alone, and the one that asks for a node for each legal move. Definitions; NeedsLess has what follows. Rests on Machine.
 use mathlib.Core.Path.{_≡_}
 use Prim.Native.Nat.{_≤_}
 use lib.ListN.{length}
