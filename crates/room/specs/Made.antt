@@ -41,8 +41,12 @@ EndsMaking ws base o m rule attacker r =
     (l : Countable ws base attacker) → OuterOf (l .position) o → moveError (l .position) m ≡ 0 → r ≡ eqb (leaf (game rule (l .side)) (play (l .position) m) m .delta) 0
 
 -- How many children step 4 makes
-abbrev pub CountsMade : List ℕ → ℕ → ℕ → ℕ → ℕ → Type 0
-CountsMade ws base rule attacker n = (l : Countable ws base attacker) → n ≡ size (children (game rule (l .side)) (l .position))
+abbrev pub made : {ws : List ℕ} {base attacker : ℕ} → ℕ → Countable ws base attacker → ℕ
+made rule l = size (children (game rule (l .side)) (l .position))
+
+-- What is read of the position besides its cells, and a place that no legal move stands before
+abbrev pub AllFrom : {ws : List ℕ} {base attacker : ℕ} → Countable ws base attacker → Outer → ℕ → Type 0
+AllFrom l o start = OuterOf (l .position) o × (movesFrom (l .position) 0 ≡ movesFrom (l .position) start)
 
 -- A legal move's child: by its board and cell, and by the numbers that the code works out
 module _ {ws : List ℕ} {base attacker : ℕ} (l : Countable ws base attacker) (o : Outer) (r : OuterOf (l .position) o) (m : ℕ) (e : moveError (l .position) m ≡ 0) where
@@ -82,26 +86,32 @@ module _ {ws : List ℕ} {base attacker : ℕ} (l : Countable ws base attacker) 
 
 -- The loop at place i of the board: n children are made, and none of them has delta 0
 pub record Counting {ws : List ℕ} {base attacker : ℕ} (l : Countable ws base attacker) (rule n i : ℕ) : Type 0 where
-  pub made : Children Position
-  pub count : n ≡ size made
+  pub so-far : Children Position
+  pub count : n ≡ size so-far
   pub few : n ≤ i
-  pub rest : make (game rule (l .side)) (l .position) (movesFrom (l .position) i) made ≡ children (game rule (l .side)) (l .position)
+  pub rest : make (game rule (l .side)) (l .position) (movesFrom (l .position) i) so-far ≡ children (game rule (l .side)) (l .position)
   pub legal : (m : ℕ) → List·Memᴰ m (movesFrom (l .position) i) → moveError (l .position) m ≡ 0
 
 module _ {ws : List ℕ} {base attacker : ℕ} (l : Countable ws base attacker) (rule : ℕ) where
   abbrev G : Game
   G = game rule (l .side)
 
-  pub counting-start : Counting l rule 0 0
+  pub counting-start : (start : ℕ) → movesFrom (l .position) 0 ≡ movesFrom (l .position) start → Counting l rule 0 start
   unfolding children size
-  counting-start =
-      let all = moves-all (l .position) (eq-eqb (gameState (l .position)) 0 (l .playing)) in
-      record { made = none; count = refl; few = omega arith; rest = ap (λ (ms : List ℕ). make G (l .position) ms none) (sym all); legal = λ m h. in-legal (l .position) m (subst (List·Memᴰ m) (sym all) h) }
+  counting-start start e =
+      let all = moves-all (l .position) (eq-eqb (gameState (l .position)) 0 (l .playing)) ∙ e in
+      record {
+        so-far = none;
+        count = refl;
+        few = omega arith;
+        rest = ap (λ (ms : List ℕ). make G (l .position) ms none) (sym all);
+        legal = λ m h. in-legal (l .position) m (subst (List·Memᴰ m) (sym all) h);
+      }
 
   module _ (n i : ℕ) (k : Counting l rule n i) where
-    pub counting-done : movesFrom (l .position) i ≡ [] → n ≡ size (children G (l .position))
+    pub counting-done : movesFrom (l .position) i ≡ [] → n ≡ made rule l
     unfolding make
-    counting-done e = k .count ∙ ap size (sym (ap (λ (ms : List ℕ). make G (l .position) ms (k .made)) e) ∙ k .rest)
+    counting-done e = k .count ∙ ap size (sym (ap (λ (ms : List ℕ). make G (l .position) ms (k .so-far)) e) ∙ k .rest)
 
     module _ (m j : ℕ) (stepped : (movesFrom (l .position) i ≡ m ∷ movesFrom (l .position) j) × (i < j)) where
       pub counting-within : n < 81
@@ -113,22 +123,22 @@ module _ {ws : List ℕ} {base attacker : ℕ} (l : Countable ws base attacker) 
       pub counting-legal : moveError (l .position) m ≡ 0
       counting-legal = k .legal m (subst (List·Memᴰ m) (sym (stepped .0)) (List·Memᴰ·head refl))
 
-      from-here : make G (l .position) (m ∷ movesFrom (l .position) j) (k .made) ≡ children G (l .position)
-      from-here = ap (λ (ms : List ℕ). make G (l .position) ms (k .made)) (sym (stepped .0)) ∙ k .rest
+      from-here : make G (l .position) (m ∷ movesFrom (l .position) j) (k .so-far) ≡ children G (l .position)
+      from-here = ap (λ (ms : List ℕ). make G (l .position) ms (k .so-far)) (sym (stepped .0)) ∙ k .rest
 
       module _ (t : Bool) (ends : t ≡ eqb (leaf G (play (l .position) m) m .delta) 0) where
-        pub counting-last : t ≡ true → n + 1 ≡ size (children G (l .position))
+        pub counting-last : t ≡ true → n + 1 ≡ made rule l
         unfolding size
         counting-last q =
-            let made = make-last G (lawful rule (l .side)) (l .position) m (movesFrom (l .position) j) (k .made) (sym ends ∙ q) in
-            omega (arith, k .count, ap size (sym made ∙ from-here))
+            let last = make-last G (lawful rule (l .side)) (l .position) m (movesFrom (l .position) j) (k .so-far) (sym ends ∙ q) in
+            omega (arith, k .count, ap size (sym last ∙ from-here))
 
         pub counting-next : t ≡ false → Counting l rule (n + 1) j
         unfolding size
         counting-next q = record {
-          made = child (leaf G (play (l .position) m) m) none (k .made);
+          so-far = child (leaf G (play (l .position) m) m) none (k .so-far);
           count = omega (arith, k .count);
           few = omega (arith, k .few, stepped .1);
-          rest = sym (make-next G (lawful rule (l .side)) (l .position) m (movesFrom (l .position) j) (k .made) (sym ends ∙ q)) ∙ from-here;
+          rest = sym (make-next G (lawful rule (l .side)) (l .position) m (movesFrom (l .position) j) (k .so-far) (sym ends ∙ q)) ∙ from-here;
           legal = λ x h. k .legal x (subst (List·Memᴰ x) (sym (stepped .0)) (List·Memᴰ·tail h));
         }

@@ -6,7 +6,7 @@ ghost use Prim.Native.Nat.{ℕ};
 ghost use Rattle.rules.specs.Rules.{moveError};
 ghost use Rattle.game.specs.Lines.{lineTable};
 ghost use Rattle.children.specs.Scalars.{OuterOf};
-ghost use Rattle.room.specs.Made.{Countable, EndsMaking, CountsMade};
+ghost use Rattle.room.specs.Made.{Countable, EndsMaking, AllFrom, made};
 ghost use Rattle.room.specs.Shortness.{AtLeaf, Short};
 use children::Outer;
 use game::Move;
@@ -39,13 +39,20 @@ fn ends_making(
     bounds.delta == 0
 }
 
-// How many children an expansion of a position in play makes: by its legal moves, up to the first with delta 0.
-fn count_made(table: &[u8; 512], words: &[u16], base: usize, rule: u64, attacker: usize) -> u32
-    requires { ⌜ (now table ≡ lineTable) × Countable (now words) base attacker ⌝ }
-    ensures { λ r. ⌜ CountsMade (now (words .entry)) base rule attacker r ⌝ }
+// How many children an expansion makes, by the legal moves, all of which stand from a place of the board on: up to the first with delta 0.
+fn count_from(
+    table: &[u8; 512],
+    words: &[u16],
+    base: usize,
+    o: Outer,
+    start: usize,
+    rule: u64,
+    attacker: usize,
+) -> u32
+    requires { ⌜ (now table ≡ lineTable) × ((l : Countable (now words) base attacker) × AllFrom l o start) ⌝ }
+    ensures { λ r. ⌜ ((l : Countable (now (words .entry)) base attacker) → AllFrom l o start → r ≡ made rule l) ⌝ }
 {
-    let o = Outer::read(words, base);
-    let mut cursor = MoveIterator { at: 0 };
+    let mut cursor = MoveIterator { at: start };
     let mut n: u32 = 0;
     loop {
         let step = cursor.next(words, base);
@@ -59,6 +66,19 @@ fn count_made(table: &[u8; 512], words: &[u16], base: usize, rule: u64, attacker
             }
             Step::End => return n,
         }
+    }
+}
+
+// How many children an expansion of a position in play makes. With a target the moves begin at its board.
+fn count_made(table: &[u8; 512], words: &[u16], base: usize, rule: u64, attacker: usize) -> u32
+    requires { ⌜ (now table ≡ lineTable) × Countable (now words) base attacker ⌝ }
+    ensures { λ r. ⌜ ((l : Countable (now (words .entry)) base attacker) → r ≡ made rule l) ⌝ }
+{
+    let o = Outer::read(words, base);
+    let target = o.target as usize;
+    match target {
+        0..=8 => count_from(table, words, base, o, target * 9, rule, attacker),
+        _ => count_from(table, words, base, o, 0, rule, attacker),
     }
 }
 
