@@ -7,18 +7,26 @@ use Rattle.rules.specs.Rules.{hasLine, state, board, boardStates, gameState}
 use Rattle.rules.specs.Record.{bitAt, positionOf, positionRefusal, refusal}
 use Rattle.rules.specs.Refusals.{firstRefusal}
 use Rattle.rules.specs.Examples.{W}
-use Rattle.machine.specs.Machine.{Settings, Result}
+use Rattle.machine.specs.Machine.{Settings, Result, Unknown}
 use Rattle.machine.specs.Needs.{askingForMoves}
 use Rattle.machine.specs.NeedsLess.{asking-less}
 use Rattle.plain.specs.Plain.{gameOf, policyOf, searchOf, plainSearch}
 use Rattle.plain.specs.Laws.{policy-needs, policy-asks-less}
 use Rattle.plain.specs.Cases as plain-cases
-use Rattle.plain.specs.Cases.{starred}
+use Rattle.plain.specs.Cases.{fields, computedSearch, starred}
 use Rattle.calls.specs.Calls.{lastRule}
 use Rattle.searches.specs.Searches.{nodes, settings, searchRefusal, Answered, searchCall}
 use Rattle.searches.specs.SearchAnswers.{search-answered, answered, full-carries}
 use Rattle.searches.specs.TwoSearches.{third-condition}
 use Rattle.searches.specs.StepThree.{StepThree, searchForMoves, pool, judging}
+
+-- W with five nodes, where one is asked for each legal move
+five-for-moves : (rule : ℕ) → rule ≤ lastRule → searchForMoves rule (settings (pool 5) (judging 1)) W ≡ fields Unknown 1 1 1 0 0 0 0 2
+unfolding computedSearch askingForMoves searchForMoves
+five-for-moves zero l = refl
+five-for-moves (suc zero) l = refl
+five-for-moves (suc (suc zero)) l = refl
+five-for-moves (suc (suc (suc n))) l = absurd (omega arith)
 
 -- The plain machine's result is that of the machine that asks for all legal moves, unless this one has cause 2
 as-before : (rule : ℕ) (S : Settings) (bytes : List ℕ) → (searchForMoves rule S bytes .cause ≡ 2 → ⊥) → plainSearch rule S bytes ≡ searchForMoves rule S bytes
@@ -43,6 +51,7 @@ step-three = record {
   needs = policy-needs;
   W-two = under-each (pool 2) refl refl refl _ (starred .W-two);
   W-one = under-each (pool 1) refl refl refl _ (starred .W-short);
+  W-for-moves = five-for-moves;
   enough = λ bytes words rule L r e. third-condition bytes rule L L words words r r e e .first-decided;
   search-as-before = λ bytes words rule L r e v. answered bytes words rule L r e .1 ∙ as-before rule (settings words L) bytes v;
   first-as-before = λ bytes words L w r s e v. full-carries bytes words L w r s e .0 ∙ as-before 1 (settings words L) bytes v;

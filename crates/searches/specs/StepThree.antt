@@ -31,6 +31,8 @@ pub record StepThree : Type 0 where
   -- W, with budget 1, is answered with a pool of 2 nodes, and with 1 stops with cause 2.
   pub W-two : (rule : ℕ) → rule ≤ lastRule → searchCall W (pool 2) rule (judging 1) ≡ Answered (fields True 0 2147483648 2 1 1 0 1 0)
   pub W-one : (rule : ℕ) → rule ≤ lastRule → searchCall W (pool 1) rule (judging 1) ≡ Answered (fields Unknown 1 1 1 0 0 0 0 2)
+  -- With a node asked for each of its five legal moves W stops with a pool of 5, too.
+  pub W-for-moves : (rule : ℕ) → rule ≤ lastRule → searchForMoves rule (settings (pool 5) (judging 1)) W ≡ fields Unknown 1 1 1 0 0 0 0 2
   -- N nodes are still enough, where limit and budget are at least N too.
   pub enough : (bytes : List ℕ) (words rule : ℕ) (L : Limits) (r : Result) → searchCall bytes words rule L ≡ Answered r
       → recordSequences bytes ≤ nodes words → recordSequences bytes ≤ L .limit → recordSequences bytes ≤ L .budget → r .verdict ≡ Unknown → ⊥

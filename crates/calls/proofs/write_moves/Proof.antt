@@ -13,6 +13,13 @@ Inv-loop table words out₀ cursor₀ n₀ out cursor n = Writing words out₀ o
 abbrev μ-loop : tie.MeasureT-loop
 μ-loop table words out₀ cursor₀ n₀ out cursor n = 81 - cursor .at
 
+-- From a step of the cursor back to the loop's test, and to the call
+abbrev test : tie.After-step Inv-loop μ-loop → tie.At-loop Inv-loop μ-loop
+test s = s .before .before .before
+
+abbrev call : tie.At-loop Inv-loop μ-loop → tie.Start Inv-loop μ-loop
+call i = i .before .before .before .before
+
 from-game-requires : tie.Need-from-game-requires Inv-loop μ-loop
 from-game-requires c κs = search needs
 
@@ -20,22 +27,36 @@ loop-holds : tie.Need-loop-holds Inv-loop μ-loop
 loop-holds c = writing-start _ _ _ (c .from-game .ensures)
 
 next-requires : tie.Need-next-requires Inv-loop μ-loop
-next-requires c κs = c .before .before .before .before .pre .1
+next-requires c κs = call c .pre .1
 
 enum-known-step : tie.Need-enum-known-step Inv-loop μ-loop
 enum-known-step c = search needs
 
 slice-write-out : tie.Need-slice-write-out Inv-loop μ-loop
-slice-write-out c = writing-room _ _ _ _ _ (c .before .before .before .before .loop .inv) (c .before .before .before .before .before .before .before .before .pre .2) (c .before .before .before .before .before .before .before .before .pre .1) _ _ (next-is _ _ _ _ (c .before .before .before .next .ensures) _ _ (c .before .step .given .1))
+slice-write-out c =
+    let s = c .before in
+    let i = test s in
+    writing-room _ _ _ _ _ (i .loop .inv) (call i .pre .2) (call i .pre .1) _ _ (next-is _ _ _ _ (s .before .before .next .ensures) _ _ (s .step .given .1))
 
 add-n : tie.Need-add-n Inv-loop μ-loop
-add-n c = omega (arith, writing-room _ _ _ _ _ (c .before .before .before .before .loop .inv) (c .before .before .before .before .before .before .before .before .pre .2) (c .before .before .before .before .before .before .before .before .pre .1) _ _ (next-is _ _ _ _ (c .before .before .before .next .ensures) _ _ (c .before .step .given .1)))
+add-n c =
+    omega (
+      arith,
+      writing-room _ _ _ _ _ (test (c .before) .loop .inv) (call (test (c .before)) .pre .2) (call (test (c .before)) .pre .1) _ _
+          (next-is _ _ _ _ (c .before .before .before .next .ensures) _ _ (c .before .step .given .1)),
+    )
 
 loop-less : tie.Need-loop-less Inv-loop μ-loop
-loop-less c = writing-less _ _ _ _ _ (c .before .before .before .before .loop .inv) (c .before .before .before .before .before .before .before .before .pre .2) (c .before .before .before .before .before .before .before .before .pre .1) _ _ (next-is _ _ _ _ (c .before .before .before .next .ensures) _ _ (c .before .step .given .1))
+loop-less c =
+    let s = c .before in
+    let i = test s in
+    writing-less _ _ _ _ _ (i .loop .inv) (call i .pre .2) (call i .pre .1) _ _ (next-is _ _ _ _ (s .before .before .next .ensures) _ _ (s .step .given .1))
 
 loop-again : tie.Need-loop-again Inv-loop μ-loop
-loop-again c = writing-step _ _ _ _ _ (c .before .before .before .before .loop .inv) (c .before .before .before .before .before .before .before .before .pre .2) (c .before .before .before .before .before .before .before .before .pre .1) _ _ (next-is _ _ _ _ (c .before .before .before .next .ensures) _ _ (c .before .step .given .1))
+loop-again c =
+    let s = c .before in
+    let i = test s in
+    writing-step _ _ _ _ _ (i .loop .inv) (call i .pre .2) (call i .pre .1) _ _ (next-is _ _ _ _ (s .before .before .next .ensures) _ _ (s .step .given .1))
 
 enum-told : tie.Need-enum-told Inv-loop μ-loop
 enum-told c = search needs
