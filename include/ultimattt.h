@@ -102,8 +102,8 @@ enum uttt_full {
 };
 
 /*
- * cause: why a search ended. An expansion takes a node for each child that it makes: one a legal move, in their order, up
- * to the first that ends the game with the value that its mover wants.
+ * cause: why a search ended. An expansion makes a child for each legal move, in their order, and takes a node for each;
+ * it ends after the first child in which the game is over with the value that the side that moved wants.
  */
 enum uttt_cause {
     UTTT_SOLVED = 0,

@@ -1,16 +1,12 @@
--- For computed cases: the plain machine with every definition open, and its settings and results written in a line. Rests on Machine.
+-- For computed cases: the plain machine with every definition open, and its settings written in a line. Rests on Machine.
 use Prim.Native.Nat.{ℕ}
 use Rattle.machine.specs.Game.{Game}
 use Rattle.machine.specs.Tree.{bound, leaf, solved, proofOf, disproofOf, size, leastDelta, sumPhi, append}
-use Rattle.machine.specs.Machine.{Settings, Verdict, Result, live, rootOf, root, start, firstThat, standard, into, down, descend, toLeaf, short, make, children, opened, expand, renumber, unchanged, store, climb, round, overLimit, verdictOf, result, run, ends, search}
+use Rattle.machine.specs.Machine.{Settings, Result, live, rootOf, root, start, firstThat, standard, into, down, descend, toLeaf, short, make, children, opened, expand, renumber, unchanged, store, climb, round, overLimit, verdictOf, result, run, ends, search}
 
 unfoldable pub computed : (G : Game) → Settings → G .Pos → Result
 unfolding bound leaf solved proofOf disproofOf size leastDelta sumPhi append live rootOf root start firstThat standard into down descend toLeaf short make children opened expand renumber unchanged store climb round overLimit verdictOf result run ends search
 computed G S p = search G (standard G) S p
-
--- The nine fields in the order in which they are printed
-abbrev pub printed : Verdict → ℕ → ℕ → ℕ → ℕ → ℕ → ℕ → ℕ → ℕ → Result
-printed v p d a f x y e c = record { verdict = v; proof = p; disproof = d; allocated = a; freed = f; proved = x; disproved = y; expanded = e; cause = c }
 
 abbrev pub settings : ℕ → ℕ → ℕ → ℕ → Settings
 settings pool limit budget interval = record { pool = pool; limit = limit; budget = budget; interval = interval }

@@ -17,7 +17,7 @@ pub mod RunsAlike
 pub mod Reached
 pub mod Unheld
 pub mod Resume
-pub mod NeedsLess
+pub mod NeedsNoMore
 pub mod Third
 pub mod Standard
 pub mod Witness

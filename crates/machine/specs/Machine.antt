@@ -134,6 +134,9 @@ verdictOf proof disproof = cond (eqb proof 0) True (cond (eqb disproof 0) False 
 abbrev pub Result : Type 0  -- the nine fields, in the order in which they are printed
 Result = record { verdict : Verdict; proof : ℕ; disproof : ℕ; allocated : ℕ; freed : ℕ; proved : ℕ; disproved : ℕ; expanded : ℕ; cause : ℕ }
 
+abbrev pub fields : Verdict → ℕ → ℕ → ℕ → ℕ → ℕ → ℕ → ℕ → ℕ → Result  -- a result, written in that order
+fields v p d a f x y e c = record { verdict = v; proof = p; disproof = d; allocated = a; freed = f; proved = x; disproved = y; expanded = e; cause = c }
+
 module _ (G : Game) where
   unfoldable pub result : State (G .Pos) × ℕ → Result  -- of the last state, and of what stopped the loop; cause is 0 if the root is solved
   result e = let c = e .0 .counts in let r = root (e .0) in record {

@@ -6,7 +6,8 @@ use Prim.Native.Nat.{ℕ}
 use Rattle.rules.specs.Rules.{hasLine, state, board, boardStates, gameState, play, legalMoves, drawn, finalValue}
 use Rattle.rules.specs.Record.{bitAt, positionOf}
 pub use Rattle.rules.specs.Examples.{record21, E, W, D}
-use Rattle.machine.specs.Machine.{Settings, Result, Verdict, True, False, Unknown}
+pub use Rattle.machine.specs.Machine.{fields}
+use Rattle.machine.specs.Machine.{Settings, Result, True, False, Unknown}
 use Rattle.machine.specs.Compute.{computed}
 use Rattle.plain.specs.Plain.{policyOf, searchOf, plainSearch}
 
@@ -19,10 +20,6 @@ judgeWith pool budget = settings pool 18446744073709551615 budget 10000
 
 abbrev pub judge : Settings
 judge = judgeWith 3276 100000
-
--- The nine fields of a result in their order (MANUAL, Search).
-abbrev pub fields : Verdict → ℕ → ℕ → ℕ → ℕ → ℕ → ℕ → ℕ → ℕ → Result
-fields v p d a f pr di e c = record { verdict = v; proof = p; disproof = d; allocated = a; freed = f; proved = pr; disproved = di; expanded = e; cause = c }
 
 -- The plain machine's search of a record with every definition open, so that it computes.
 unfoldable pub computedSearch : ℕ → Settings → List ℕ → Result

@@ -19,8 +19,8 @@ use Rattle.machine.specs.Machine.{firstWith, children, standard}
 use Rattle.machine.specs.Value.{Lawful}
 use Rattle.machine.specs.Place.{Sane}
 use Rattle.machine.specs.Standard.{standard-sane}
-use Rattle.machine.specs.Needs.{AsksNoMore, askingForMoves}
-use Rattle.machine.specs.NeedsLess.{no-more-than-moves}
+use Rattle.machine.specs.Needs.{AsksNoLess, askingForMoves}
+use Rattle.machine.specs.NeedsNoMore.{no-more-than-moves}
 use Rattle.machine.specs.Sequences.{Distinct, Legal, Enumerates, sequences-list, sequences-count}
 use Rattle.plain.specs.Plain.{game, gameOf, policyOf, sequencesOf}
 
@@ -55,9 +55,9 @@ module _ (rule : ℕ) (root : Player) where
   unfolding policyOf standard
   policy-needs p = refl
 
-  pub policy-asks-less : AsksNoMore (game rule root) (askingForMoves (game rule root)) (policyOf rule root)
+  pub policy-asks-no-more : AsksNoLess (game rule root) (askingForMoves (game rule root)) (policyOf rule root)
   unfolding policyOf
-  policy-asks-less = no-more-than-moves (game rule root) (lawful rule root)
+  policy-asks-no-more = no-more-than-moves (game rule root) (lawful rule root)
 
 ascending-distinct : (l : List ℕ) → Ascending l → Distinct l
 ascending-distinct [] a = tt

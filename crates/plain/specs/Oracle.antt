@@ -13,7 +13,7 @@ use Rattle.plain.specs.Plain.{valueOf, sequencesOf, recordValue, recordS
 use Rattle.plain.specs.Cases.{record21, settings, judgeWith, judge, fields, computedSearch, E, W, D}
 
 -- Finished: drawn with O to move, and won by X with O to move.
-abbrev pub drawn-o : List ℕ
+abbrev drawn-o : List ℕ
 drawn-o = record21 0xFAB400A80054001500054000A8002A000A80054000
 
 abbrev pub won-x : List ℕ

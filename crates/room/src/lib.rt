@@ -6,7 +6,7 @@ ghost use Prim.Native.Nat.{ℕ};
 ghost use Rattle.rules.specs.Rules.{moveError};
 ghost use Rattle.game.specs.Lines.{lineTable};
 ghost use Rattle.children.specs.Scalars.{OuterOf};
-ghost use Rattle.room.specs.Made.{Countable, EndsMaking, AllFrom, made};
+ghost use Rattle.room.specs.ChildCount.{Countable, EndsMaking, AllFrom, childCount};
 ghost use Rattle.room.specs.Shortness.{AtLeaf, Short};
 use children::Outer;
 use game::Move;
@@ -39,7 +39,7 @@ fn ends_making(
     bounds.delta == 0
 }
 
-// How many children an expansion makes, by the legal moves, all of which stand from a place of the board on: up to the first with delta 0.
+// How many children an expansion makes: one a legal move, up to and with the first that has delta 0. No legal move stands before the place `start`.
 fn count_from(
     table: &[u8; 512],
     words: &[u16],
@@ -50,7 +50,7 @@ fn count_from(
     attacker: usize,
 ) -> u32
     requires { ⌜ (now table ≡ lineTable) × ((l : Countable (now words) base attacker) × AllFrom l o start) ⌝ }
-    ensures { λ r. ⌜ ((l : Countable (now (words .entry)) base attacker) → AllFrom l o start → r ≡ made rule l) ⌝ }
+    ensures { λ r. ⌜ ((l : Countable (now (words .entry)) base attacker) → AllFrom l o start → r ≡ childCount rule l) ⌝ }
 {
     let mut cursor = MoveIterator { at: start };
     let mut n: u32 = 0;
@@ -72,7 +72,7 @@ fn count_from(
 // How many children an expansion of a position in play makes. With a target the moves begin at its board.
 fn count_made(table: &[u8; 512], words: &[u16], base: usize, rule: u64, attacker: usize) -> u32
     requires { ⌜ (now table ≡ lineTable) × Countable (now words) base attacker ⌝ }
-    ensures { λ r. ⌜ ((l : Countable (now (words .entry)) base attacker) → r ≡ made rule l) ⌝ }
+    ensures { λ r. ⌜ ((l : Countable (now (words .entry)) base attacker) → r ≡ childCount rule l) ⌝ }
 {
     let o = Outer::read(words, base);
     let target = o.target as usize;

@@ -7,13 +7,13 @@ use Rattle.rules.specs.Rules.{hasLine, state, board, boardStates, gameState}
 use Rattle.rules.specs.Record.{bitAt, positionOf, positionRefusal, refusal}
 use Rattle.rules.specs.Refusals.{firstRefusal}
 use Rattle.rules.specs.Examples.{W}
-use Rattle.machine.specs.Machine.{Settings, Result, Unknown}
+use Rattle.machine.specs.Machine.{Settings, Result, fields, Unknown}
 use Rattle.machine.specs.Needs.{askingForMoves}
-use Rattle.machine.specs.NeedsLess.{asking-less}
+use Rattle.machine.specs.NeedsNoMore.{asking-no-more}
 use Rattle.plain.specs.Plain.{gameOf, policyOf, searchOf, plainSearch}
-use Rattle.plain.specs.Laws.{policy-needs, policy-asks-less}
+use Rattle.plain.specs.Laws.{policy-needs, policy-asks-no-more}
 use Rattle.plain.specs.Cases as plain-cases
-use Rattle.plain.specs.Cases.{fields, computedSearch, starred}
+use Rattle.plain.specs.Cases.{computedSearch, starred}
 use Rattle.calls.specs.Calls.{lastRule}
 use Rattle.searches.specs.Searches.{nodes, settings, searchRefusal, Answered, searchCall}
 use Rattle.searches.specs.SearchAnswers.{search-answered, answered, full-carries}
@@ -34,7 +34,7 @@ unfolding searchForMoves searchOf
 as-before rule S bytes v =
     let p = positionOf bytes in
     let G = gameOf rule p in
-    asking-less G (askingForMoves G) (policyOf rule (p .side)) (policy-asks-less rule (p .side)) S p v
+    asking-no-more G (askingForMoves G) (policyOf rule (p .side)) (policy-asks-no-more rule (p .side)) S p v
 
 -- A case under each rule
 under-each : (words : ℕ) → searchRefusal W (nodes words) 0 (judging 1) ≡ 0 → searchRefusal W (nodes words) 1 (judging 1) ≡ 0 → searchRefusal W (nodes words) 2 (judging 1) ≡ 0
@@ -51,8 +51,8 @@ step-three = record {
   needs = policy-needs;
   W-two = under-each (pool 2) refl refl refl _ (starred .W-two);
   W-one = under-each (pool 1) refl refl refl _ (starred .W-short);
-  W-for-moves = five-for-moves;
   enough = λ bytes words rule L r e. third-condition bytes rule L L words words r r e e .first-decided;
+  W-for-moves = five-for-moves;
   search-as-before = λ bytes words rule L r e v. answered bytes words rule L r e .1 ∙ as-before rule (settings words L) bytes v;
   first-as-before = λ bytes words L w r s e v. full-carries bytes words L w r s e .0 ∙ as-before 1 (settings words L) bytes v;
   second-as-before = λ bytes words L w r s e v. full-carries bytes words L w r s e .1 ∙ as-before 2 (settings words L) bytes v;

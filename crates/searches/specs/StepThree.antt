@@ -1,5 +1,5 @@
--- What is promised of step 3, which needs the nodes that an expansion really takes: one record, of the calls' answers. Rests on Searches, on the plain machine of a record, and on
--- the machine whose step 3 asks for a node for each legal move.
+-- What is promised of step 3, which needs the nodes that an expansion really takes: one record, of the calls' answers. Rests on Searches, Plain and machine's Needs, and on the rules'
+-- Examples for W.
 use mathlib.Core.Path.{_≡_}
 use mathlib.Core.List.{List}
 use Prim.Native.Nat.{ℕ, _*_, _≤_}
@@ -7,10 +7,9 @@ use Rattle.rules.specs.Rules.{Player, Position}
 use Rattle.rules.specs.Record.{positionOf}
 use Rattle.rules.specs.Examples.{W}
 use Rattle.machine.specs.Tree.{size}
-use Rattle.machine.specs.Machine.{Settings, Result, True, Unknown, children, search}
+use Rattle.machine.specs.Machine.{Settings, Result, fields, True, Unknown, children, search}
 use Rattle.machine.specs.Needs.{askingForMoves}
 use Rattle.plain.specs.Plain.{game, gameOf, policyOf, recordSequences}
-use Rattle.plain.specs.Cases.{fields}
 use Rattle.calls.specs.Calls.{lastRule}
 use Rattle.searches.specs.Searches.{Limits, limits, nodes, settings, Answered, searchCall, FullVerdict, Full, fullCall}
 
@@ -31,11 +30,11 @@ pub record StepThree : Type 0 where
   -- W, with budget 1, is answered with a pool of 2 nodes, and with 1 stops with cause 2.
   pub W-two : (rule : ℕ) → rule ≤ lastRule → searchCall W (pool 2) rule (judging 1) ≡ Answered (fields True 0 2147483648 2 1 1 0 1 0)
   pub W-one : (rule : ℕ) → rule ≤ lastRule → searchCall W (pool 1) rule (judging 1) ≡ Answered (fields Unknown 1 1 1 0 0 0 0 2)
-  -- With a node asked for each of its five legal moves W stops with a pool of 5, too.
-  pub W-for-moves : (rule : ℕ) → rule ≤ lastRule → searchForMoves rule (settings (pool 5) (judging 1)) W ≡ fields Unknown 1 1 1 0 0 0 0 2
   -- N nodes are still enough, where limit and budget are at least N too.
   pub enough : (bytes : List ℕ) (words rule : ℕ) (L : Limits) (r : Result) → searchCall bytes words rule L ≡ Answered r
       → recordSequences bytes ≤ nodes words → recordSequences bytes ≤ L .limit → recordSequences bytes ≤ L .budget → r .verdict ≡ Unknown → ⊥
+  -- The machine that is compared with asks for a node for each legal move: by it W, which has five, stops at a pool of 5.
+  pub W-for-moves : (rule : ℕ) → rule ≤ lastRule → searchForMoves rule (settings (pool 5) (judging 1)) W ≡ fields Unknown 1 1 1 0 0 0 0 2
   -- Only results with cause 2 have changed: any other is the same in all nine fields. So of search, and of each of the two results that full verdict carries.
   pub search-as-before : (bytes : List ℕ) (words rule : ℕ) (L : Limits) (r : Result) → searchCall bytes words rule L ≡ Answered r
       → (searchForMoves rule (settings words L) bytes .cause ≡ 2 → ⊥) → r ≡ searchForMoves rule (settings words L) bytes

@@ -12,13 +12,15 @@ use Rattle.machine.specs.Machine.{Result, True, False, Unknown}
 use Rattle.plain.specs.Plain.{valueOf}
 use Rattle.plain.specs.Cases as plain-cases
 use Rattle.plain.specs.Cases.{record21, E, W, D, fields, starred}
+use Rattle.plain.specs.Oracle.{last-x}
 use Rattle.referee.specs.OpenCells.{openCells}
 use Rattle.calls.specs.Calls.{replayOutcome, refereeOutcome, afterMoves, outputRefusal, replayCall, movesCall, refereeRefusal, refereeCall}
 use Rattle.sheets.specs.Cases.{SheetsCases, sheets-cases}
 use Rattle.searches.specs.SearchAnswers.{search-answered, full-with}
 use Rattle.searches.specs.StepThree.{pool, judging}
-use Rattle.searches.specs.Searches.{Limits, nodes, settings, searchRefusal, Refused, Answered, searchCall, fullOf, Draw, Full, Turned, fullCall}
-use Rattle.ultimattt.specs.RoomCases.{RoomAnswers, room-answers}
+use Rattle.searches.specs.Searches.{Limits, nodes, settings, searchRefusal, Refused, Answered, searchCall, fullOf, Draw, AtLeastDraw, Full, Turned, fullCall}
+use Rattle.ultimattt.specs.RoomCases as room-cases
+use Rattle.ultimattt.specs.RoomCases.{short-at-once, RoomAnswers, room-answers}
 
 -- An output of 21 bytes, and one of 81.
 abbrev pub out21 : List ℕ
@@ -84,6 +86,7 @@ pub record Cases : Type 0 where
   pub D-rule-2 : refereeCall D 2 ≡ refereeOutcome 0 0 1
   -- ours: step 3 at small pools, with the fewest nodes that a search answers with, and one less
   pub room : RoomAnswers
+  pub full-short : fullCall last-x (pool 2) (judging 100000) ≡ Full AtLeastDraw short-at-once (fields True 0 2147483648 2 1 1 0 1 0)
   -- two sheets: the cases of crate sheets
   pub sheets : SheetsCases
 
@@ -124,5 +127,6 @@ cases = record {
   D-rule-1 = refl;
   D-rule-2 = refl;
   room = room-answers;
+  full-short = room-cases.full-short;
   sheets = sheets-cases;
 }

@@ -8,8 +8,8 @@ use Rattle.machine.specs.Machine.{Result, True, False, Unknown}
 use Rattle.plain.specs.Plain.{plainSearch}
 use Rattle.plain.specs.Cases.{record21, judgeWith, fields, computedSearch, D}
 use Rattle.plain.specs.Oracle.{won-x, last-x, last-o, last-two, ending-x, ending-o}
-use Rattle.searches.specs.Searches.{nodes, settings, searchRefusal, Answered, searchCall}
-use Rattle.searches.specs.SearchAnswers.{search-answered}
+use Rattle.searches.specs.Searches.{nodes, settings, searchRefusal, Answered, searchCall, fullOf, AtLeastDraw, Full, fullCall}
+use Rattle.searches.specs.SearchAnswers.{search-answered, full-with}
 use Rattle.searches.specs.StepThree.{pool, judging}
 
 -- As W, but the third of X's five moves wins, or the last; and O to move, whose first move wins.
@@ -23,7 +23,7 @@ abbrev W-o : List ℕ
 W-o = record21 0x954001500050028A8002A000800000000000000000
 
 -- Stopped before the first expansion, by cause 2.
-abbrev short-at-once : Result
+abbrev pub short-at-once : Result
 short-at-once = fields Unknown 1 1 1 0 0 0 0 2
 
 -- A search with so many nodes, under a rule, of a record; and its result. Limit, budget and interval are judge's.
@@ -43,7 +43,7 @@ roomCases =
     -- O to move, and the first move wins: one node
     room 2 0 W-o (fields True 0 2147483648 2 1 1 0 1 0) ∷
     room 1 0 W-o short-at-once ∷
-    -- X has two moves, O three, and each draws: it wins under rules 0 and 2, so one child is made; under rule 1 it doesn't, and all are
+    -- X has two moves, O three, and each draws: under rules 0 and 2 such a child has delta 0, so one is made; under rule 1 it has not, and all are
     room 2 0 last-x (fields True 0 2147483648 2 1 1 0 1 0) ∷
     room 3 1 last-x (fields False 2147483648 0 3 2 0 1 1 0) ∷
     room 2 1 last-x short-at-once ∷
@@ -55,7 +55,7 @@ roomCases =
     -- one node too few for the reply, at depth 1
     room 3 0 last-two (fields False 2147483648 0 3 2 0 2 2 0) ∷
     room 2 0 last-two (fields Unknown 1 1 2 0 0 0 1 2) ∷
-    -- one too few deeper down, with a part freed; with it there the search answers, though the leaf has more legal moves than nodes are free
+    -- one node too few deeper down, with a part freed; with one more the search answers, though the leaf has more legal moves than nodes are free
     room 9 0 ending-x (fields True 0 2147483650 12 11 3 3 7 0) ∷
     room 8 0 ending-x (fields Unknown 1 3 11 3 0 3 6 2) ∷
     room 8 1 ending-o (fields False 2147483648 0 12 11 0 8 8 0) ∷
@@ -96,3 +96,8 @@ RoomAnswers = map (λ c. searchCall (c .bytes) (pool (c .pool)) (c .rule) (judgi
 
 pub room-answers : RoomAnswers
 room-answers = answers-from roomCases accepted plain-results
+
+-- Full verdict with two nodes, where X's moves draw: short under rule 1 alone.
+pub full-short : fullCall last-x (pool 2) (judging 100000) ≡ Full AtLeastDraw short-at-once (fields True 0 2147483648 2 1 1 0 1 0)
+unfolding computedSearch positionRefusal refusal firstRefusal searchRefusal fullOf
+full-short = full-with last-x (pool 2) (judging 100000) refl _ _ refl refl

@@ -4,7 +4,7 @@ use native.Mathlib.Omega.{arith}
 use borrow.Author.Needs.{needs}
 use Rattle.rules.specs.Legal.{legal}
 use Rattle.children.specs.After.{outer-small}
-use Rattle.room.specs.Made.{made-child, ends-is}
+use Rattle.room.specs.ChildCount.{made-child, ends-is}
 use Rattle.room.proofs.ends_making.Statement.{statement}
 use Rattle.room.proofs.ends_making.Tie as tie
 

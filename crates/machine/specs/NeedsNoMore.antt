@@ -10,19 +10,19 @@ use Rattle.machine.specs.Machine.{Settings, live, State, start, Policy, 
 use Rattle.machine.specs.Value.{Lawful}
 use Rattle.machine.specs.Rounds.{children-ok}
 use Rattle.machine.specs.RunsAlike.{run-alike}
-use Rattle.machine.specs.Needs.{AsksNoMore, askingForMoves}
+use Rattle.machine.specs.Needs.{AsksNoLess, askingForMoves}
 
-module _ (G : Game) (P Q : Policy G) (h : AsksNoMore G P Q) (S : Settings) where
+module _ (G : Game) (P Q : Policy G) (h : AsksNoLess G P Q) (S : Settings) where
   not-short : (s : State (G .Pos)) → short G P S s ≡ false → short G Q S s ≡ false
   unfolding short
-  not-short s e = le-ltb (S .pool - live (s .counts)) (Q .need (s .node .pos)) (omega (arith, h .no-more (s .node .pos), ltb-false (S .pool - live (s .counts)) (P .need (s .node .pos)) e))
+  not-short s e = le-ltb (S .pool - live (s .counts)) (Q .need (s .node .pos)) (omega (arith, h .no-less (s .node .pos), ltb-false (S .pool - live (s .counts)) (P .need (s .node .pos)) e))
 
   -- THEOREM: a search by P that has another cause than 2 has the same result by Q, in all nine fields
-  pub asking-less : (p : G .Pos) → (search G P S p .cause ≡ 2 → ⊥) → search G Q S p ≡ search G P S p
+  pub asking-no-more : (p : G .Pos) → (search G P S p .cause ≡ 2 → ⊥) → search G Q S p ≡ search G P S p
   unfolding search ends
-  asking-less p v = ap (result G) (run-alike G P Q (h .same-child) S S not-short (λ s. refl) (S .budget) (start G p) (λ two. absurd (v two)))
+  asking-no-more p v = ap (result G) (run-alike G P Q (h .same-child) S S not-short (λ s. refl) (S .budget) (start G p) (λ two. absurd (v two)))
 
 -- The plain machine asks for no more nodes than there are legal moves
-pub no-more-than-moves : (G : Game) → Lawful G → AsksNoMore G (askingForMoves G) (standard G)
+pub no-more-than-moves : (G : Game) → Lawful G → AsksNoLess G (askingForMoves G) (standard G)
 unfolding askingForMoves standard
-no-more-than-moves G L = record { same-child = λ n ks. refl; no-more = λ p. omega (arith, children-ok G L p .most) }
+no-more-than-moves G L = record { same-child = λ n ks. refl; no-less = λ p. omega (arith, children-ok G L p .most) }

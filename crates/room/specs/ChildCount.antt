@@ -41,8 +41,8 @@ EndsMaking ws base o m rule attacker r =
     (l : Countable ws base attacker) → OuterOf (l .position) o → moveError (l .position) m ≡ 0 → r ≡ eqb (leaf (game rule (l .side)) (play (l .position) m) m .delta) 0
 
 -- How many children step 4 makes
-abbrev pub made : {ws : List ℕ} {base attacker : ℕ} → ℕ → Countable ws base attacker → ℕ
-made rule l = size (children (game rule (l .side)) (l .position))
+abbrev pub childCount : {ws : List ℕ} {base attacker : ℕ} → ℕ → Countable ws base attacker → ℕ
+childCount rule l = size (children (game rule (l .side)) (l .position))
 
 -- What is read of the position besides its cells, and a place that no legal move stands before
 abbrev pub AllFrom : {ws : List ℕ} {base attacker : ℕ} → Countable ws base attacker → Outer → ℕ → Type 0
@@ -85,7 +85,7 @@ module _ {ws : List ℕ} {base attacker : ℕ} (l : Countable ws base attacker) 
       ap (λ (d : ℕ). eqb d 0) (n rule (l .side) (play p m) m w (ea ∙ attacker-moves rule) .delta-is)
 
 -- The loop at place i of the board: n children are made, and none of them has delta 0
-pub record Counting {ws : List ℕ} {base attacker : ℕ} (l : Countable ws base attacker) (rule n i : ℕ) : Type 0 where
+pub record CountingChildren {ws : List ℕ} {base attacker : ℕ} (l : Countable ws base attacker) (rule n i : ℕ) : Type 0 where
   pub so-far : Children Position
   pub count : n ≡ size so-far
   pub few : n ≤ i
@@ -96,9 +96,9 @@ module _ {ws : List ℕ} {base attacker : ℕ} (l : Countable ws base attacker) 
   abbrev G : Game
   G = game rule (l .side)
 
-  pub counting-start : (start : ℕ) → movesFrom (l .position) 0 ≡ movesFrom (l .position) start → Counting l rule 0 start
+  pub counted-start : (start : ℕ) → movesFrom (l .position) 0 ≡ movesFrom (l .position) start → CountingChildren l rule 0 start
   unfolding children size
-  counting-start start e =
+  counted-start start e =
       let all = moves-all (l .position) (eq-eqb (gameState (l .position)) 0 (l .playing)) ∙ e in
       record {
         so-far = none;
@@ -108,34 +108,34 @@ module _ {ws : List ℕ} {base attacker : ℕ} (l : Countable ws base attacker) 
         legal = λ m h. in-legal (l .position) m (subst (List·Memᴰ m) (sym all) h);
       }
 
-  module _ (n i : ℕ) (k : Counting l rule n i) where
-    pub counting-done : movesFrom (l .position) i ≡ [] → n ≡ made rule l
+  module _ (n i : ℕ) (k : CountingChildren l rule n i) where
+    pub counted-done : movesFrom (l .position) i ≡ [] → n ≡ childCount rule l
     unfolding make
-    counting-done e = k .count ∙ ap size (sym (ap (λ (ms : List ℕ). make G (l .position) ms (k .so-far)) e) ∙ k .rest)
+    counted-done e = k .count ∙ ap size (sym (ap (λ (ms : List ℕ). make G (l .position) ms (k .so-far)) e) ∙ k .rest)
 
     module _ (m j : ℕ) (stepped : (movesFrom (l .position) i ≡ m ∷ movesFrom (l .position) j) × (i < j)) where
-      pub counting-within : n < 81
-      counting-within = omega (arith, k .few, moves-within (l .position) i m _ (stepped .0))
+      pub counted-within : n < 81
+      counted-within = omega (arith, k .few, moves-within (l .position) i m _ (stepped .0))
 
-      pub counting-less : 81 - j < 81 - i
-      counting-less = omega (arith, moves-within (l .position) i m _ (stepped .0), stepped .1)
+      pub counted-less : 81 - j < 81 - i
+      counted-less = omega (arith, moves-within (l .position) i m _ (stepped .0), stepped .1)
 
-      pub counting-legal : moveError (l .position) m ≡ 0
-      counting-legal = k .legal m (subst (List·Memᴰ m) (sym (stepped .0)) (List·Memᴰ·head refl))
+      pub counted-legal : moveError (l .position) m ≡ 0
+      counted-legal = k .legal m (subst (List·Memᴰ m) (sym (stepped .0)) (List·Memᴰ·head refl))
 
       from-here : make G (l .position) (m ∷ movesFrom (l .position) j) (k .so-far) ≡ children G (l .position)
       from-here = ap (λ (ms : List ℕ). make G (l .position) ms (k .so-far)) (sym (stepped .0)) ∙ k .rest
 
       module _ (t : Bool) (ends : t ≡ eqb (leaf G (play (l .position) m) m .delta) 0) where
-        pub counting-last : t ≡ true → n + 1 ≡ made rule l
+        pub counted-last : t ≡ true → n + 1 ≡ childCount rule l
         unfolding size
-        counting-last q =
+        counted-last q =
             let last = make-last G (lawful rule (l .side)) (l .position) m (movesFrom (l .position) j) (k .so-far) (sym ends ∙ q) in
             omega (arith, k .count, ap size (sym last ∙ from-here))
 
-        pub counting-next : t ≡ false → Counting l rule (n + 1) j
+        pub counted-next : t ≡ false → CountingChildren l rule (n + 1) j
         unfolding size
-        counting-next q = record {
+        counted-next q = record {
           so-far = child (leaf G (play (l .position) m) m) none (k .so-far);
           count = omega (arith, k .count);
           few = omega (arith, k .few, stepped .1);
