@@ -11,11 +11,12 @@ CALLS ?= 200000
 FUZZ_CALLS ?= 100000
 FUZZ_SECONDS ?= 60
 ROUNDS ?= 5
+LOAD_ROUNDS ?= 25
 CARGO = cargo
 BUILD_IN = $(CARGO) build --manifest-path harness/Cargo.toml --offline --locked -j $(JOBS)
 BUILD = $(BUILD_IN) --release
 
-.PHONY: test judge library uttt answers oracle-test fuzz compare bench bindings-test examples
+.PHONY: test judge library uttt answers oracle-test fuzz compare bench bench-loads bindings-test examples
 
 # Every crate proved from nothing, every must-fail edit refused, every program's output as stored. Nothing is printed after rt's last line.
 test:
@@ -27,15 +28,18 @@ judge:
 	rt check judge
 	target/bin/judge < crates/judge/stdin
 
-# The proved static library: target/staticlib/libultimattt.a, made anew where a source of a crate that it stands on has changed.
+# A proved static library, target/staticlib/libNAME.a, is made anew where a source of a crate that it stands on has changed.
+sources = crates.txt $(shell find $(patsubst %,crates/%,$(1) $(shell sed -n 's/^$(1)://p' crates.txt)) -name '*.rt' -o -name '*.antt')
 LIBRARY = target/staticlib/libultimattt.a
-LIBRARY_CRATES = ultimattt $(shell sed -n 's/^ultimattt://p' crates.txt)
-LIBRARY_SOURCES = crates.txt $(shell find $(LIBRARY_CRATES:%=crates/%) -name '*.rt' -o -name '*.antt')
+LOAD_BENCH = target/staticlib/libload_bench.a
 
+$(LIBRARY): $(call sources,ultimattt)
+$(LOAD_BENCH): $(call sources,load_bench)
+$(LIBRARY) $(LOAD_BENCH): target/staticlib/lib%.a:
+	rt staticlib $*
+
+# The proved static library: target/staticlib/libultimattt.a
 library: $(LIBRARY)
-
-$(LIBRARY): $(LIBRARY_SOURCES)
-	rt staticlib ultimattt
 
 # A tool over the library that answers calls, one a line: harness/target/release/uttt
 uttt: library
@@ -45,9 +49,9 @@ uttt: library
 answers:
 	$(BUILD) -p oracle
 
-# The original on the manual's positions to try and on chosen small searches.
+# The original on the manual's positions to try and on chosen small searches; the generators, lines and records.
 oracle-test:
-	$(CARGO) test --manifest-path harness/Cargo.toml --offline --locked -j $(JOBS) -p calls -p oracle
+	$(CARGO) test --manifest-path harness/Cargo.toml --offline --locked -j $(JOBS) -p calls -p oracle -p measure
 
 # The library's exports on random and damaged bytes, every buffer between guard pages. First libraries with one thing wrong: each must be caught.
 fuzz: library
@@ -64,6 +68,11 @@ compare: library fuzz
 bench: library
 	$(BUILD_IN) --profile speed -p bench
 	harness/target/speed/bench $(ROUNDS)
+
+# Records read from three words and bit by bit, both proved, timed: the tables of loading in docs/SPEED.md.
+bench-loads: $(LOAD_BENCH)
+	$(BUILD_IN) --profile speed -p loads
+	harness/target/speed/loads $(LOAD_ROUNDS)
 
 # The Rust wrapper's own tests, over the library.
 bindings-test: library

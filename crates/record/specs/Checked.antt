@@ -1,37 +1,24 @@
--- Checks 2 to 6 as the code makes them, on what it keeps of a position's boards. Rests on Reading and Marks.
-use mathlib.Core.Path.{_≡_, refl, ap, sym, _∙_}
+-- Checks 2 to 6 as the code makes them, on what it keeps of the boards of a position with no code 3. Rests on Reading and Marks.
+use mathlib.Core.Path.{_≡_, refl, sym, _∙_}
 use mathlib.Core.Bool.{Bool, true, false, cond, not, _&&_, _||_}
 use mathlib.Core.List.{List, [], _∷_, _++_}
-use Prim.Native.Nat.{ℕ, suc, _+_, _<_, _≤_}
+use Prim.Native.Nat.{ℕ, _+_, _<_, _≤_}
 use native.Mathlib.Nat.{add-zero}
 use native.Mathlib.Numerals.{add-one}
-use native.Mathlib.Decide.{decLt}
 use native.Mathlib.Omega.{arith}
-use borrow.Author.Tests.{eq-eqb, ne-eqb, lt-ltb, ltb-true}
-use lib.Dec.{eqb, ltb, eqb·suc-zero}
-use lib.ListN.{take}
-use lib.Seq.{take-all}
-use Rattle.rules.specs.Rules.{Player, mark, code, all, count, hasLine, boardStates}
+use borrow.Author.Tests.{ne-eqb, ltb-true}
+use lib.Dec.{eqb, ltb}
+use Rattle.rules.specs.Rules.{Player, mark, code, count, hasLine, boardStates}
 use Rattle.rules.specs.Rules.Player.{X, O}
 use Rattle.rules.specs.Record.{sideBit, fairTurn, bothLines, positionRefusal}
 use Rattle.rules.specs.Refusals.{refuses, firstRefusal}
-use Rattle.rules.specs.Tests.{both-true}
 use Rattle.rules.specs.Boards.{length-states}
 use Rattle.game.specs.Masks.{hasBit, has-bit, nonzero}
 use Rattle.game.specs.Lines.{lineIn}
 use Rattle.record.specs.declared.Boards.{Boards}
 use Rattle.record.specs.Reading.{Whole, Checking, targetRefusal, sideMask}
 use Rattle.record.specs.Marks.{whole-lt, x-line, o-line, done-mask}
-use Rattle.record.specs.Added.{count-le}
-
--- Codes below 4 are all below 3 if none is 3.
-no-threes : (cs : List ℕ) → all (λ c. ltb c 4) cs ≡ true → all (λ c. ltb c 3) cs ≡ eqb (count 3 cs) 0
-no-threes [] h = refl
-no-threes (c ∷ cs) h = let s = both-true (ltb c 4) _ h in rw (no-threes cs (s .1)) (go (decLt c 3))
-  where
-    go : Dec (c < 3) → (ltb c 3 && eqb (count 3 cs) 0) ≡ eqb (cond (eqb c 3) (suc (count 3 cs)) (count 3 cs)) 0
-    go (yes l) = rw (lt-ltb c 3 l, ne-eqb c 3 (λ e. omega arith))
-    go (no g) = let e : c ≡ 3 = omega (arith, ltb-true c 4 (both-true (ltb c 4) _ h .0)) in rw e (sym (eqb·suc-zero (count 3 cs)))
+use Rattle.record.specs.Counted.{count-le}
 
 fair : (s : Player) (x o : ℕ) → fairTurn s x o ≡ eqb x (o + sideBit s)
 fair X x o = rw add-zero
@@ -53,22 +40,21 @@ own-line O cs = go (hasLine 1 cs) (hasLine 2 cs)
     go false b = refl
 
 -- The target's checks, 2 and 6, made at once: l for a target below 9, e for 15, h and n for a done board; ms are the checks between them, ns those after.
-order : (a l e h n : Bool) (ms ns : List ℕ) → (l ≡ true → n ≡ h)
+order : (l e h n : Bool) (ms ns : List ℕ) → (l ≡ true → n ≡ h)
     → let target : ℕ = cond l (refuses 6 h) (refuses 2 (not e)) in
-    firstRefusal (refuses 2 (not (a && (l || e))) ∷ (ms ++ (refuses 6 (l && n) ∷ ns)))
-    ≡ firstRefusal (refuses 2 (not a) ∷ refuses 2 (eqb target 2) ∷ (ms ++ (target ∷ ns)))
+    firstRefusal (refuses 2 (not (l || e)) ∷ (ms ++ (refuses 6 (l && n) ∷ ns)))
+    ≡ firstRefusal (refuses 2 (eqb target 2) ∷ (ms ++ (target ∷ ns)))
 unfolding firstRefusal
-order false l e h n ms ns i = refl
-order true true e true n ms ns i = rw (i refl)
-order true true e false n ms ns i = rw (i refl)
-order true false true h n ms ns i = refl
-order true false false h n ms ns i = refl
+order true e true n ms ns i = rw (i refl)
+order true e false n ms ns i = rw (i refl)
+order false true h n ms ns i = refl
+order false false h n ms ns i = refl
 
 module _ (r : Boards) (t s : ℕ) (g : Checking r t s) where
   -- the states of the nine boards
   unfoldable pub states : Whole (r .states)
   unfolding boardStates
-  states = record { codes = boardStates (g .position .cells); count = length-states (g .position .cells); masks = g .reads .states }
+  states = record { codes = boardStates (g .position .cells); count = length-states (g .position .cells); masks = g .shows .states }
 
   pub states-lt : (r .states .x < 512) × (r .states .o < 512) × (r .states .rest < 512)
   states-lt = whole-lt (r .states) states
@@ -76,14 +62,8 @@ module _ (r : Boards) (t s : ℕ) (g : Checking r t s) where
   abbrev pub doneBits : ℕ
   doneBits = r .states .x + r .states .o + r .states .rest
 
-  counted : (k n : ℕ) → n ≡ count k (take 81 (g .position .cells)) → n ≡ count k (g .position .cells)
-  counted k n e = e ∙ ap (count k) (take-all 81 (g .position .cells) (omega (arith, g .whole)))
-
-  cells-coded : all (λ c. ltb c 3) (g .position .cells) ≡ eqb (r .rest) 0
-  cells-coded = no-threes (g .position .cells) (g .small) ∙ ap (λ n. eqb n 0) (sym (counted 3 (r .rest) (g .reads .rest)))
-
   turn : fairTurn (g .position .side) (count 1 (g .position .cells)) (count 2 (g .position .cells)) ≡ eqb (r .xs) (r .os + s)
-  turn = fair (g .position .side) _ _ ∙ rw (counted 1 (r .xs) (g .reads .xs), counted 2 (r .os) (g .reads .os), g .moves)
+  turn = fair (g .position .side) _ _ ∙ rw (← g .xs, ← g .os, g .moves)
 
   won : (p : Player) → s ≡ sideBit p → hasLine (mark p) (boardStates (g .position .cells)) ≡ lineIn (sideMask (r .states) s)
   unfolding states
@@ -100,21 +80,21 @@ module _ (r : Boards) (t s : ℕ) (g : Checking r t s) where
 
   -- Checks 2 to 6 in the code's terms.
   pub check-law : positionRefusal (g .position)
-      ≡ firstRefusal (refuses 2 (not (eqb (r .rest) 0)) ∷ refuses 2 (eqb (targetRefusal t doneBits) 2) ∷ (middle ++ (targetRefusal t doneBits ∷ [])))
+      ≡ firstRefusal (refuses 2 (eqb (targetRefusal t doneBits) 2) ∷ (middle ++ (targetRefusal t doneBits ∷ [])))
   unfolding positionRefusal
   check-law =
-      rw (cells-coded, turn, sym (g .reads .both), own-line (g .position .side) (boardStates (g .position .cells)) ∙ won (g .position .side) (g .moves), ← g .aims)
-      (order (eqb (r .rest) 0) (ltb t 9) (eqb t 15) (hasBit doneBits t) (not (eqb (code (boardStates (g .position .cells)) t) 0)) middle [] (λ e. done (ltb-true t 9 e)))
+      rw (g .coded, turn, sym (g .shows .both), own-line (g .position .side) (boardStates (g .position .cells)) ∙ won (g .position .side) (g .moves), ← g .aims)
+      (order (ltb t 9) (eqb t 15) (hasBit doneBits t) (not (eqb (code (boardStates (g .position .cells)) t) 0)) middle [] (λ e. done (ltb-true t 9 e)))
 
   -- check 2 of the target, n being what was said of it
-  pub target-law : (n : ℕ) → n ≡ targetRefusal t doneBits → r .rest ≡ 0 → n ≡ 2 → n ≡ positionRefusal (g .position)
+  pub target-law : (n : ℕ) → n ≡ targetRefusal t doneBits → n ≡ 2 → n ≡ positionRefusal (g .position)
   unfolding firstRefusal
-  target-law n e z q = q ∙ sym (check-law ∙ rw (← e, eq-eqb (r .rest) 0 z, q))
+  target-law n e q = q ∙ sym (check-law ∙ rw (← e, q))
 
   -- the rest of them once check 2 has passed, n being what was said of the target
-  pub coded-law : (n : ℕ) → n ≡ targetRefusal t doneBits → r .rest ≡ 0 → (n ≡ 2 → ⊥) → positionRefusal (g .position) ≡ firstRefusal (middle ++ (n ∷ []))
+  pub coded-law : (n : ℕ) → n ≡ targetRefusal t doneBits → (n ≡ 2 → ⊥) → positionRefusal (g .position) ≡ firstRefusal (middle ++ (n ∷ []))
   unfolding firstRefusal
-  coded-law n e z q = check-law ∙ rw (← e, eq-eqb (r .rest) 0 z, ne-eqb n 2 q)
+  coded-law n e q = check-law ∙ rw (← e, ne-eqb n 2 q)
 
   -- what the code adds up fits, and the mask of a side is nine bits
   pub own-lt : sideMask (r .states) s < 512
@@ -125,4 +105,4 @@ module _ (r : Boards) (t s : ℕ) (g : Checking r t s) where
       go false = states-lt .1
 
   pub os-few : r .os ≤ 81
-  os-few = rw (counted 2 (r .os) (g .reads .os)) (omega (arith, count-le 2 (g .position .cells), g .whole))
+  os-few = rw (g .os) (omega (arith, count-le 2 (g .position .cells), g .whole))

@@ -1,7 +1,7 @@
 pub mod Reading
 pub mod Marks
-pub mod Cells
 pub mod Added
+pub mod Counted
 pub mod Checked
 pub mod Loading
 pub mod Storing

@@ -2,21 +2,21 @@
 
 ghost use mathlib.Core.Path.{_≡_};
 ghost use mathlib.Core.Bool.{_&&_};
-ghost use mathlib.Core.List.{List, _∷_, _++_};
+ghost use mathlib.Core.List.{_++_};
 ghost use Prim.Native.Nat.{ℕ, _+_, _*_, _/_, _%_, _^_, _<_, _≤_};
 ghost use lib.ListN.{length, getD, drop};
-ghost use Rattle.rules.specs.Rules.{Position, board, state};
-ghost use Rattle.rules.specs.Record.{bitAt, number, positionOf, positionRefusal, refusal, recordBit, recordOf};
+ghost use Rattle.rules.specs.Rules.{Position, mark, count, state};
+ghost use Rattle.rules.specs.Record.{number, positionOf, positionRefusal, refusal, recordBit, recordOf};
 ghost use Rattle.game.specs.Lines.{lineIn, lineTable};
 ghost use Rattle.game.specs.Words.{Holds, Held};
-ghost use Rattle.record.specs.Reading.{Masks, Putting, Whole, Reads, Adding, Checking, targetRefusal, sideMask};
+ghost use Rattle.record.specs.Reading.{Whole, Coded, Shows, Adding, Counting, Checking, FieldsRead, targetRefusal, sideMask};
+ghost use Rattle.record.specs.Counted.{onesFrom};
+use cells::Cells;
+use cells::Codes;
 use game::Game;
 
 // A record's length in bytes.
 const RECORD_LENGTH: usize = 21;
-
-// Its last bit, which is 0.
-const LAST_BIT: usize = 167;
 
 // Where a position's words have, after the cells, the boards that X has won.
 const X_WON: usize = 18;
@@ -32,77 +32,6 @@ const TARGET: usize = 21;
 
 // The side to move.
 const SIDE: usize = 22;
-
-// Bit o of the bytes, the most significant of each first.
-fn bit_at(bytes: &[u8], o: usize) -> u8
-    requires { ⌜ (21 ≤ length (now bytes)) × (o < 168) ⌝ }
-    ensures { λ r. ⌜ r ≡ bitAt (now (bytes .entry)) o ⌝ }
-{
-    (bytes[o / 8] >> (7 - o % 8)) % 2
-}
-
-// The number that k bits make, from bit o on.
-fn number_at(bytes: &[u8], o: usize, k: usize) -> u8
-    requires { ⌜ (21 ≤ length (now bytes)) × (o + k ≤ 168) × (k ≤ 8) ⌝ }
-    ensures { λ r. ⌜ r ≡ number (bitAt (now (bytes .entry))) o k ⌝ }
-{
-    let mut v: u8 = 0;
-    for j in 0..k {
-        v = v * 2 + bit_at(bytes, o + j);
-    }
-    v
-}
-
-// Codes of two bits, put one after the other, as masks: where they are 1, 2 and 3.
-struct Codes {
-    x: u16,
-    o: u16,
-    rest: u16,
-}
-
-// One more code, at place c.
-fn put(codes: Codes, c: usize, code: u8) -> Codes
-    requires { ⌜ Putting codes c × (code < 4) ⌝ }
-    ensures { λ r. ⌜ ((g : Putting codes c) → Masks (g .codes ++ (code ∷ List.[])) r) ⌝ }
-{
-    let x = codes.x;
-    let o = codes.o;
-    let rest = codes.rest;
-    match code {
-        0 => codes,
-        1 => Codes {
-            x: x + game::bit(c),
-            o,
-            rest,
-        },
-        2 => Codes {
-            x,
-            o: o + game::bit(c),
-            rest,
-        },
-        _ => Codes {
-            x,
-            o,
-            rest: rest + game::bit(c),
-        },
-    }
-}
-
-// The cells of board b.
-fn cells(bytes: &[u8], b: usize) -> Codes
-    requires { ⌜ (21 ≤ length (now bytes)) × (b < 9) ⌝ }
-    ensures { λ r. ⌜ Masks (board (positionOf (now (bytes .entry)) .cells) b) r ⌝ }
-{
-    let mut codes = Codes {
-        x: 0,
-        o: 0,
-        rest: 0,
-    };
-    for c in 0..9 {
-        codes = put(codes, c, number_at(bytes, 5 + 2 * (b * 9 + c), 2));
-    }
-    codes
-}
 
 // The state of nine codes: the cells of a board, or the states of the boards.
 fn state_of(table: &[u8; 512], codes: Codes) -> u8
@@ -132,29 +61,20 @@ fn both_lines(table: &[u8; 512], codes: Codes) -> bool
     false
 }
 
-// What the boards read so far show: the words of their cells, their states, the cells of each code, and whether one has lines of both sides.
-struct Boards {
-    words: [u16; 23],
+// What the boards so far show: their states, and whether one has lines of both sides.
+struct Shown {
     states: Codes,
-    xs: u32,
-    os: u32,
-    rest: u32,
     both: bool,
 }
 
 // One more board.
-fn add(boards: Boards, table: &[u8; 512], b: usize, codes: Codes) -> Boards
-    requires { ⌜ (now table ≡ lineTable) × Adding boards b codes ⌝ }
-    ensures { λ r. ⌜ ((g : Adding boards b codes) → Reads (g .cells) (b + 1) r) ⌝ }
+fn add(shown: Shown, table: &[u8; 512], b: usize, codes: Codes) -> Shown
+    requires { ⌜ (now table ≡ lineTable) × Adding shown b codes ⌝ }
+    ensures { λ r. ⌜ ((g : Adding shown b codes) → Shows (g .cells) (b + 1) r) ⌝ }
 {
-    let mut r = boards;
-    r.words[b] = codes.x;
-    r.words[9 + b] = codes.o;
-    let states = boards.states;
-    r.states = put(states, b, state_of(table, codes));
-    r.xs += u16::count_ones(codes.x);
-    r.os += u16::count_ones(codes.o);
-    r.rest += u16::count_ones(codes.rest);
+    let mut r = shown;
+    let states = shown.states;
+    r.states = cells::put(states, b, state_of(table, codes));
     if both_lines(table, codes) {
         r.both = true;
     }
@@ -162,28 +82,50 @@ fn add(boards: Boards, table: &[u8; 512], b: usize, codes: Codes) -> Boards
 }
 
 // All nine boards.
-fn read(bytes: &[u8], table: &[u8; 512]) -> Boards
-    requires { ⌜ (21 ≤ length (now bytes)) × (now table ≡ lineTable) ⌝ }
-    ensures { λ r. ⌜ Reads (positionOf (now (bytes .entry)) .cells) 9 r ⌝ }
+fn show(words: &[u16; 23], table: &[u8; 512]) -> Shown
+    requires { ⌜ Coded (now words) × (now table ≡ lineTable) ⌝ }
+    ensures { λ r. ⌜ ((g : Coded (now (words .entry))) → Shows (g .cells) 9 r) ⌝ }
 {
-    let words = [0u16; 23];
     let states = Codes {
         x: 0,
         o: 0,
         rest: 0,
     };
-    let mut boards = Boards {
-        words,
+    let mut shown = Shown {
         states,
-        xs: 0,
-        os: 0,
-        rest: 0,
         both: false,
     };
     for b in 0..9 {
-        boards = add(boards, table, b, cells(bytes, b));
+        let codes = Codes {
+            x: words[b],
+            o: words[9 + b],
+            rest: 0,
+        };
+        shown = add(shown, table, b, codes);
     }
-    boards
+    shown
+}
+
+fn wide(m: u16) -> u32
+    ensures { λ r. ⌜ r ≡ m ⌝ }
+{
+    m as u32
+}
+
+// The bits of three boards' masks, from word i on.
+fn count_row(words: &[u16; 23], i: usize) -> u32
+    requires { ⌜ (i ≤ 15) × ((j : ℕ) → j < 3 → getD (now words) (i + j) 0 < 512) ⌝ }
+    ensures { λ r. ⌜ (r ≡ onesFrom (now (words .entry)) i 3) × (r ≤ 27) ⌝ }
+{
+    u32::count_ones(wide(words[i]) + wide(words[i + 1]) * 512 + wide(words[i + 2]) * 262144)
+}
+
+// The cells of a side, whose nine masks stand from word i on.
+fn count_cells(words: &[u16; 23], i: usize) -> u32
+    requires { ⌜ Counting (now words) i ⌝ }
+    ensures { λ r. ⌜ ((g : Counting (now (words .entry)) i) → r ≡ count (mark (g .side)) (g .coded .cells)) ⌝ }
+{
+    count_row(words, i) + count_row(words, i + 3) + count_row(words, i + 6)
 }
 
 // What checks 2 and 6 say of the target: 0 to 8 name a board, which must not be done; 9 to 14 are refused; 15 leaves the choice free. Four bits give nothing above 15.
@@ -210,16 +152,21 @@ fn of_side(codes: Codes, side: u8) -> u16
     if side == 0 { codes.x } else { codes.o }
 }
 
-// Checks 2 to 6, in their order. Where both sides have a line of boards, the side to move has one.
+// What checks 3 to 6 look at: the boards' states, the cells of each side, and whether a board has lines of both sides.
+struct Boards {
+    states: Codes,
+    xs: u32,
+    os: u32,
+    both: bool,
+}
+
+// Checks 2 to 6, in their order, once no cell has code 3. Where both sides have a line of boards, the side to move has one.
 fn check(boards: Boards, target: u8, side: u8, table: &[u8; 512]) -> u8
     requires { ⌜ Checking boards target side × (now table ≡ lineTable) ⌝ }
     ensures { λ r. ⌜ ((g : Checking boards target side) → r ≡ positionRefusal (g .position)) ⌝ }
 {
     let states = boards.states;
     let named = check_target(target, states.x + states.o + states.rest);
-    if boards.rest != 0 {
-        return 2;
-    }
     if named == 2 {
         return named;
     }
@@ -241,10 +188,38 @@ pub struct Loaded {
     pub game: Game,
 }
 
-fn refused(code: u8) -> Loaded
+pub fn refused(code: u8) -> Loaded
     ensures { λ r. ⌜ r .code ≡ code ⌝ }
 {
     let words = [0u16; 23];
+    let game = Game { words };
+    Loaded { code, game }
+}
+
+// Checks 2 to 6 of what was read, in their order, and the position's words.
+pub fn finish(read: Cells, target: u8, side: u8) -> Loaded
+    requires { ⌜ FieldsRead read target side ⌝ }
+    ensures { λ r. ⌜ ((g : FieldsRead read target side) → (r .code ≡ positionRefusal (g .position)) × (r .code ≡ 0 → Holds (g .position) (r .game .words) 0)) ⌝ }
+{
+    if read.rest != 0 {
+        return refused(2);
+    }
+    let mut words = read.words;
+    let table = game::line_table();
+    let shown = show(&words, &table);
+    let states = shown.states;
+    let boards = Boards {
+        states,
+        xs: count_cells(&words, 0),
+        os: count_cells(&words, 9),
+        both: shown.both,
+    };
+    let code = check(boards, target, side, &table);
+    words[X_WON] = states.x;
+    words[O_WON] = states.o;
+    words[DRAWN] = states.rest;
+    words[TARGET] = target as u16;
+    words[SIDE] = side as u16;
     let game = Game { words };
     Loaded { code, game }
 }
@@ -256,23 +231,13 @@ pub fn load(bytes: &[u8]) -> Loaded
     if bytes.len() != RECORD_LENGTH {
         return refused(1);
     }
-    if bit_at(bytes, LAST_BIT) != 0 {
+    let w = cells::record_words(bytes);
+    if w.third % 2 != 0 {
         return refused(2);
     }
-    let table = game::line_table();
-    let boards = read(bytes, &table);
-    let target = number_at(bytes, 1, 4);
-    let side = bit_at(bytes, 0);
-    let code = check(boards, target, side, &table);
-    let states = boards.states;
-    let mut words = boards.words;
-    words[X_WON] = states.x;
-    words[O_WON] = states.o;
-    words[DRAWN] = states.rest;
-    words[TARGET] = target as u16;
-    words[SIDE] = side as u16;
-    let game = Game { words };
-    Loaded { code, game }
+    let target = ((w.first >> 59) % 16) as u8;
+    let side = (w.first >> 63) as u8;
+    finish(cells::from_words(w), target, side)
 }
 
 // A bit of cell i: the high one says O (1), the low one X (0).

@@ -3,8 +3,7 @@
 use crate::searches::{Search, COUNTED, TIMED};
 use crate::sides;
 use calls::Fields;
-use std::env;
-use std::process::{Command, Stdio};
+use measure::callgrind::counted;
 
 /// What a process is asked to run under callgrind. `Neither` does all but the search.
 #[derive(Clone, Copy)]
@@ -32,11 +31,6 @@ pub fn once(side: &str, name: &str) -> Option<()> {
     Some(())
 }
 
-pub fn installed() -> bool {
-    let asked = Command::new("valgrind").arg("--version").stdout(Stdio::null()).stderr(Stdio::null()).status();
-    asked.is_ok_and(|status| status.success())
-}
-
 /// How many instructions each expansion took, and how many there were.
 pub struct Count {
     pub each: f64,
@@ -45,29 +39,13 @@ pub struct Count {
 
 /// The original's count and ours.
 pub fn an_expansion(search: &Search) -> Result<[Count; 2], String> {
-    let (empty, _) = counted("neither", search)?;
-    let (original, theirs) = counted("original", search)?;
-    let (ours, fields) = counted("ours", search)?;
+    let once = |side| counted(&["once", side, search.name]);
+    let (empty, _) = once("neither")?;
+    let (original, theirs) = once("original")?;
+    let (ours, fields) = once("ours")?;
     if theirs != fields {
         return Err(format!("{}: the original gave {}, the library {}", search.name, theirs, fields));
     }
     let expanded: u64 = fields.split_whitespace().nth(7).and_then(|n| n.parse().ok()).ok_or("no fields")?;
     Ok([original, ours].map(|all| Count { each: (all - empty) / expanded as f64, expanded }))
-}
-
-/// All instructions of a process that runs the search, and what it printed.
-fn counted(side: &str, search: &Search) -> Result<(f64, String), String> {
-    let program = env::current_exe().map_err(|e| e.to_string())?;
-    let run = Command::new("valgrind")
-        .args(["--tool=callgrind", "--callgrind-out-file=/dev/null"])
-        .arg(program)
-        .args(["once", side, search.name])
-        .output()
-        .map_err(|e| e.to_string())?;
-    let (fields, told) = (String::from_utf8_lossy(&run.stdout), String::from_utf8_lossy(&run.stderr));
-    let total = told.lines().find_map(|line| line.split("Collected : ").nth(1)).and_then(|n| n.trim().parse().ok());
-    match total {
-        Some(total) if run.status.success() => Ok((total, fields.trim().to_string())),
-        _ => Err(format!("callgrind failed on {} {}:\n{}", side, search.name, told)),
-    }
 }

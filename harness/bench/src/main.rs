@@ -13,9 +13,10 @@ mod searches;
 mod sides;
 mod timing;
 
+use measure::callgrind;
 use searches::{Search, COUNTED, POOL_WORDS, TIMED};
 use std::process::ExitCode;
-use timing::{Outcome, Spread};
+use timing::Outcome;
 
 const ROUNDS: usize = 5;
 
@@ -65,25 +66,14 @@ fn tables(rounds: usize) -> Result<(), String> {
 
 fn row(search: &Search, o: &Outcome) -> String {
     let [new, kept, fresh, touched] = o.seconds.map(|s| 1000.0 * s);
-    let ratio = |s: &Spread| format!("**{:.1}** ({:.1} to {:.1})", s.1, s.0, s.2);
     format!(
         "| {}: {} | {} | {} | {:.0}, {:.0} | {:.0}, {:.0} | {} | {} | {} |",
-        search.name,
-        search.what,
-        o.fields.expanded,
-        o.rounds,
-        new,
-        kept,
-        fresh,
-        touched,
-        ratio(&o.fresh),
-        ratio(&o.touched),
-        ratio(&o.kept)
+        search.name, search.what, o.fields.expanded, o.rounds, new, kept, fresh, touched, o.fresh, o.touched, o.kept
     )
 }
 
 fn instruction_table() -> Result<(), String> {
-    if !instructions::installed() {
+    if !callgrind::installed() {
         println!("Instructions are not counted: valgrind is not installed.");
         return Ok(());
     }

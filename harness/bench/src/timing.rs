@@ -3,6 +3,7 @@
 use crate::searches::Search;
 use crate::{memory, sides};
 use calls::Fields;
+use measure::{by_turns, spread, Spread};
 use std::fs;
 use std::time::Instant;
 
@@ -38,17 +39,14 @@ pub struct Outcome {
     pub kept: Spread,
 }
 
-/// Least, median and most.
-pub struct Spread(pub f64, pub f64, pub f64);
-
 /// Runs `rounds` rounds with new pages for the original and as many with kept ones. All runs must give the
 /// same nine fields.
 pub fn time(search: &Search, rounds: usize, pool: &mut [u32]) -> Result<Outcome, String> {
     let mut bench = Bench { search, pool, pages: memory::new_pages, agreed: None };
-    let new = bench.rounds(rounds, &[Side::Original, Side::Touched, Side::Fresh])?;
+    let new = by_turns(rounds, &[Side::Original, Side::Touched, Side::Fresh], |side| bench.run(side))?;
     bench.pages = memory::kept_pages;
     bench.run(Side::Original)?;
-    let kept = bench.rounds(rounds, &[Side::Original, Side::Touched])?;
+    let kept = by_turns(rounds, &[Side::Original, Side::Touched], |side| bench.run(side))?;
     let middle = |all: &[Vec<Run>], side, part: fn(&Run) -> f64| {
         spread(all.iter().flatten().filter(|r| r.side == side).map(part).collect()).1
     };
@@ -76,18 +74,6 @@ struct Bench<'a> {
 }
 
 impl Bench<'_> {
-    /// Every side once a round, in the given order and in the other by turns.
-    fn rounds(&mut self, rounds: usize, sides: &[Side]) -> Result<Vec<Vec<Run>>, String> {
-        let one = |number: usize| {
-            let mut order = sides.to_vec();
-            if number % 2 == 1 {
-                order.reverse();
-            }
-            order.into_iter().map(|side| self.run(side)).collect()
-        };
-        (0..rounds).map(one).collect()
-    }
-
     fn run(&mut self, side: Side) -> Result<Run, String> {
         (self.pages)();
         let (faults, start) = (faults(), Instant::now());
@@ -118,9 +104,4 @@ fn faults() -> f64 {
 fn ratio(all: &[Vec<Run>], side: Side) -> Spread {
     let seconds = |round: &[Run], wanted| round.iter().find(|r| r.side == wanted).map_or(f64::NAN, |r| r.seconds);
     spread(all.iter().map(|round| seconds(round, Side::Original) / seconds(round, side)).collect())
-}
-
-fn spread(mut numbers: Vec<f64>) -> Spread {
-    numbers.sort_by(f64::total_cmp);
-    Spread(numbers[0], numbers[numbers.len() / 2], numbers[numbers.len() - 1])
 }

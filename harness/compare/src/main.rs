@@ -9,7 +9,7 @@
 mod shrink;
 
 use calls::{Answer, Call, Kind};
-use oracle::generate::{self, Random};
+use oracle::generate::{self, reading, Random};
 use oracle::Ending;
 use std::collections::BTreeMap;
 use std::process::ExitCode;
@@ -43,14 +43,16 @@ fn main() -> ExitCode {
     }
 }
 
-/// The oracle's cases, then `count` calls at random.
+/// The oracle's cases, then every record that tries loading place by place, then `count` calls at random.
 fn first_difference(seed: u64, count: u64, tally: &mut Tally) -> Option<Call> {
+    let records = reading::records(&mut Random::new(seed));
+    let loads = records.iter().flat_map(|record| reading::calls_of(record));
     let mut random = Random::new(seed);
     let generated = (0..count).map(|_| {
         let kind = random.pick(&Kind::ALL);
         generate::call(&mut random, kind)
     });
-    for call in oracle::cases::calls().chain(generated) {
+    for call in oracle::cases::calls().chain(loads).chain(generated) {
         let theirs = oracle::answer(&call);
         *tally.entry(kind(&call, &theirs)).or_default() += 1;
         if ours::answer(&call) != Ok(theirs) {

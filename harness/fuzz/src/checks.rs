@@ -100,15 +100,17 @@ fn moves(count: u64, output: &[u8]) -> Result<(), String> {
     must(moves.windows(2).all(|pair| pair[0] < pair[1]), "moves ascend")
 }
 
-/// The record afterwards is accepted, and has one taken cell more for each move.
+/// The record afterwards is accepted, and has one taken cell more for each move and the others as they were; no
+/// moves leave it as it was.
 fn replayed(record: &[u8], moves: &[u8], output: &[u8]) -> Result<(), String> {
     let after = &output[..LENGTH];
     must(table::record_refusal(after).is_none(), "the record afterwards passes checks 1 to 6")?;
-    must(moves.len() <= 81 && taken(record) + moves.len() == taken(after), "every move takes a cell")
-}
-
-fn taken(record: &[u8]) -> usize {
-    81 - position(record).count(EMPTY)
+    must(!moves.is_empty() || after == record, "no moves leave the record as it was")?;
+    let (before, after) = (position(record), position(after));
+    let mut cells = before.cells.iter().flatten().zip(after.cells.iter().flatten());
+    must(cells.all(|(b, a)| *b == EMPTY || a == b), "a taken cell stays as it was")?;
+    let taken = |position: &Position| 81 - position.count(EMPTY);
+    must(moves.len() <= 81 && taken(&before) + moves.len() == taken(&after), "every move takes a cell")
 }
 
 fn position(record: &[u8]) -> Position {

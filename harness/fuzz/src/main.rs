@@ -4,7 +4,7 @@
 //! the same each time. The first violation is printed with its call, as a line that `uttt` reads, and fails.
 //!
 //! ```text
-//! fuzz [SEED [COUNT [SECONDS]]]    up to COUNT calls, for up to so many seconds
+//! fuzz [SEED [COUNT [SECONDS]]]    up to COUNT calls, for up to so many seconds, then records that try every place
 //! fuzz wrong                       libraries with one thing wrong: each must be caught
 //! fuzz wrong NUMBER                one of those
 //! ```
@@ -22,7 +22,7 @@ mod wrong;
 use calls::{Call, Kind};
 use exports::{Exports, LIBRARY};
 use guarded::Edge;
-use oracle::generate::Random;
+use oracle::generate::{reading, Random};
 use run::{Answered, Lender};
 use std::collections::BTreeMap;
 use std::process::{Command, ExitCode};
@@ -91,6 +91,7 @@ fn fuzz(exports: &Exports, seed: u64, count: u64, seconds: u64, a_call: u32) -> 
     let mut tally = Tally::new();
     let mut lender = Lender::new(*exports, a_call);
     let tried = calls_at_random(&mut lender, seed, count, Duration::from_secs(seconds), &mut tally)
+        .and_then(|()| calls_place_by_place(&mut lender, seed, &mut tally))
         .and_then(|()| wide::check(exports, a_call));
     match tried {
         Err(message) => {
@@ -123,9 +124,22 @@ fn calls_at_random(
             break;
         }
         let call = inputs::call(&mut random);
-        let answered = one(lender, &call, &mut random).map_err(|m| format!("{}\n  call: {}", m, call))?;
-        *tally.entry(kind(&call, &answered)).or_default() += 1;
+        tallied(lender, &call, &mut random, tally)?;
     }
+    Ok(())
+}
+
+/// The records that try loading place by place.
+fn calls_place_by_place(lender: &mut Lender, seed: u64, tally: &mut Tally) -> Result<(), String> {
+    let mut random = Random::new(seed);
+    let records = reading::records(&mut random);
+    let mut calls = records.iter().flat_map(|record| reading::calls_of(record));
+    calls.try_for_each(|call| tallied(lender, &call, &mut random, tally))
+}
+
+fn tallied(lender: &mut Lender, call: &Call, random: &mut Random, tally: &mut Tally) -> Result<(), String> {
+    let answered = one(lender, call, random).map_err(|m| format!("{}\n  call: {}", m, call))?;
+    *tally.entry(kind(call, &answered)).or_default() += 1;
     Ok(())
 }
 

@@ -5,9 +5,10 @@
 #![allow(clippy::no_effect)]
 
 use crate::exports::{Exports, LIBRARY};
+use calls::record::{Position, EMPTY, LENGTH};
 use uttt::ffi;
 
-pub const ALL: [(&str, Exports); 31] = [
+pub const ALL: [(&str, Exports); 35] = [
     ("moves reads a byte past the record", Exports { moves: moves_past, ..LIBRARY }),
     ("moves reads a byte before the record", Exports { moves: moves_before, ..LIBRARY }),
     ("moves counts one move more", Exports { moves: moves_more, ..LIBRARY }),
@@ -16,6 +17,10 @@ pub const ALL: [(&str, Exports); 31] = [
     ("replay writes a byte past the record", Exports { replay: replay_beyond, ..LIBRARY }),
     ("replay gives an index past the moves", Exports { replay: replay_index, ..LIBRARY }),
     ("replay writes into the moves", Exports { replay: replay_moves, ..LIBRARY }),
+    ("replay reads cell 29 from bits 62 and 63", Exports { replay: replay_cell_29, ..LIBRARY }),
+    ("replay reads boards 6 to 8 a byte early", Exports { replay: replay_a_byte_early, ..LIBRARY }),
+    ("replay reads board 3 a bit late", Exports { replay: replay_a_bit_late, ..LIBRARY }),
+    ("replay takes code 3 at cell 80 for an empty cell", Exports { replay: replay_code_3, ..LIBRARY }),
     ("referee does not return", Exports { referee: referee_stays, ..LIBRARY }),
     ("referee cuts the length to 32 bits", Exports { referee: referee_cut, ..LIBRARY }),
     ("search lets the pool's first word in", Exports { search: search_reads, ..LIBRARY }),
@@ -72,6 +77,33 @@ macro_rules! replay {
             $a
         }
     };
+}
+
+/// A replay of what it takes the record for.
+macro_rules! replay_misread {
+    ($name:ident, |$record:ident| $read:expr) => {
+        unsafe extern "C" fn $name(
+            r: *const u8,
+            n: usize,
+            m: *const u8,
+            k: usize,
+            out: *mut u8,
+            room: usize,
+        ) -> ffi::ReplayAnswer {
+            if n != LENGTH {
+                return ffi::uttt_replay(r, n, m, k, out, room);
+            }
+            let $record: &[u8; LENGTH] = &*r.cast();
+            let read: [u8; LENGTH] = $read;
+            ffi::uttt_replay(read.as_ptr(), n, m, k, out, room)
+        }
+    };
+}
+
+/// The record with each bit taken from the place that is given for it.
+fn taken_from(record: &[u8; LENGTH], place: impl Fn(usize) -> usize) -> [u8; LENGTH] {
+    let bit = |at: usize| record[at / 8] >> (7 - at % 8) & 1;
+    std::array::from_fn(|byte| (0..8).map(|i| bit(place(8 * byte + i)) << (7 - i)).sum())
 }
 
 /// A search with something looked at before it and something done after it.
@@ -189,6 +221,21 @@ replay!(replay_early, |m, k| (), |a, out, room| when!(a.code > 7, *out ^= 1));
 replay!(replay_beyond, |m, k| (), |a, out, room| when!(a.code == 0 && room > 21, *out.add(21) ^= 1));
 replay!(replay_index, |m, k| (), |a, out, room| when!(a.code > 10, a.index = k as u64));
 replay!(replay_moves, |m, k| when!(k > 0, m.cast_mut().write_volatile(m.read_volatile())), |a, out, room| ());
+
+// Three words of eight bytes: cell 29 from the first of them alone, the third from byte 12, and board 3 put together
+// from the first and the second one bit off.
+replay_misread!(replay_cell_29, |record| taken_from(record, |bit| if bit == 63 || bit == 64 { bit - 1 } else { bit }));
+replay_misread!(replay_a_byte_early, |record| {
+    taken_from(record, |bit| if (113..167).contains(&bit) { bit - 8 } else { bit })
+});
+replay_misread!(replay_a_bit_late, |record| {
+    taken_from(record, |bit| if (59..77).contains(&bit) { bit + 1 } else { bit })
+});
+replay_misread!(replay_code_3, |record| {
+    let mut position = Position::read(record);
+    when!(position.cells[8][8] == 3, position.cells[8][8] = EMPTY);
+    position.write()
+});
 
 search!(
     search_reads,

@@ -1,10 +1,24 @@
--- `record::load` meets its contract: the two checks of the bytes, and then those of the position; its words hold it. Assumes nothing.
-use mathlib.Core.Path.{sym, _∙_}
+-- `record::load` meets its contract: the two checks of the bytes, and what was read from their words. Assumes nothing.
+use Prim.Native.Nat.{ℕ, _/_, _%_, _^_, _<_}
+use mathlib.Core.Path.{_≡_, ap, sym, _∙_}
 use native.Mathlib.Omega.{arith}
+use lib.ListN.{getD, length}
 use borrow.Author.Needs.{needs}
-use Rattle.record.specs.Loading.{refused-1, refused-2, refused-later, checking, holds}
+use Rattle.rules.specs.Record.{bitAt, positionOf}
+use Rattle.rules.specs.Roundtrip.{load-whole}
+use Rattle.cells.specs.Reading.{CellsRead}
+use Rattle.cells.specs.WordLaws.{side-in, target-in, last-in}
+use Rattle.cells.specs.Cells.{words-read}
+use Rattle.record.specs.Loading.{refused-1, refused-2, refused-later, fields, some-fields}
 use Rattle.record.proofs.load.Statement.{statement}
 use Rattle.record.proofs.load.Tie as tie
+
+-- what came in, once it has a record's length
+abbrev start : tie.Else1 → tie.Start
+start c = c .before .before
+
+abbrev small : (c : tie.Else1) (k : ℕ) → getD (start c .args .bytes .now) k 0 < 256
+small c k = c .before .shared-slice-known .given k .fits
 
 refused-requires : tie.Need-refused-requires
 refused-requires c κs = search needs
@@ -14,71 +28,53 @@ returns c =
     let bs = c .before .before .before .args .bytes .now in
     (c .refused .ensures ∙ refused-1 bs (λ e. omega (arith, c .before .if1 .taken)), λ z. absurd (omega (arith, c .refused .ensures)))
 
-bit-at-requires : tie.Need-bit-at-requires
-bit-at-requires c κs = omega arith
+record-words-requires : tie.Need-record-words-requires
+record-words-requires c κs = omega arith
+
+-- the last bit, as the third word has it
+abbrev last : (c : tie.After-record-words) → c .record-words .result .third % 2 ≡ bitAt (start (c .before) .args .bytes .now) 167
+last c = ap (λ w. w .third % 2) (c .record-words .ensures) ∙ last-in _ (small (c .before))
 
 refused-requires-2 : tie.Need-refused-requires-2
 refused-requires-2 c κs = search needs
 
 returns-2 : tie.Need-returns-2
 returns-2 c =
-    let bs = c .before .before .before .before .before .args .bytes .now in
-    let last = c .before .before .bit-at .ensures in
-    (c .refused2 .ensures ∙ refused-2 bs (omega (arith, c .before .before .before .if1 .left)) (λ e. c .before .if2 .taken (last ∙ e)), λ z. absurd (omega (arith, c .refused2 .ensures)))
+    let words = c .before .before .before in
+    let e : length (start (words .before) .args .bytes .now) ≡ 21 = words .before .if1 .left in
+    (c .refused2 .ensures ∙ refused-2 _ e (λ z. c .before .if2 .taken (last words ∙ z)), λ z. absurd (omega (arith, c .refused2 .ensures)))
 
-line-table-requires : tie.Need-line-table-requires
-line-table-requires c κs = search needs
+cast-target : tie.Need-cast-target
+cast-target c = search needs
 
-read-requires : tie.Need-read-requires
-read-requires c κs = search needs
+cast-side : tie.Need-cast-side
+cast-side c = search needs
 
-number-at-requires : tie.Need-number-at-requires
-number-at-requires c κs = search needs
+from-words-requires : tie.Need-from-words-requires
+from-words-requires c κs = search needs
 
-bit-at-requires-2 : tie.Need-bit-at-requires-2
-bit-at-requires-2 c κs = search needs
+-- the cells taken from the words are the record's
+abbrev words : tie.After-from-words → tie.After-record-words
+words c = c .before .before .before .before .before
 
-check-requires : tie.Need-check-requires
-check-requires c κs =
-    let side = c .before in
-    let target = side .before in
-    let boards = target .before in
-    let start = boards .before .before .before .before .before .before .before in
-    let g = checking (start .args .bytes .now) _ _ _ (boards .read .ensures) (target .number-at .ensures) (side .bit-at2 .ensures) in
-    (g, boards .before .before .line-table .ensures)
+abbrev read : (c : tie.After-from-words) → CellsRead (positionOf (start (words c .before) .args .bytes .now) .cells) (c .from-words .result)
+read c = words-read _ (small (words c .before)) _ (words c .record-words .ensures) _ (c .from-words .ensures)
 
-array-write-words : tie.Need-array-write-words
-array-write-words c = search needs
-
-array-write-words-2 : tie.Need-array-write-words-2
-array-write-words-2 c = search needs
-
-array-write-words-3 : tie.Need-array-write-words-3
-array-write-words-3 c = search needs
-
-cast-words : tie.Need-cast-words
-cast-words c = search needs
-
-array-write-words-4 : tie.Need-array-write-words-4
-array-write-words-4 c = search needs
-
-cast-words-2 : tie.Need-cast-words-2
-cast-words-2 c = search needs
-
-array-write-words-5 : tie.Need-array-write-words-5
-array-write-words-5 c = search needs
+finish-requires : tie.Need-finish-requires
+finish-requires c κs =
+    let fits = c .before .struct-known3 .given in
+    some-fields _ _ _ _ (load-whole _) (read c) (omega (arith, fits .0 .fits, fits .1 .0 .fits))
 
 returns-3 : tie.Need-returns-3
-unfolding checking
+unfolding fields
 returns-3 c =
-    let side = c .before .before .before .before in
-    let target = side .before in
-    let boards = target .before in
-    let start = boards .before .before .before .before .before .before .before in
-    let g = checking (start .args .bytes .now) _ _ _ (boards .read .ensures) (target .number-at .ensures) (side .bit-at2 .ensures) in
-    let e = c .before .before .check .ensures g in
-    let last = boards .before .before .before in
-    (e ∙ refused-later _ (last .before .before .if1 .left) (sym (last .before .bit-at .ensures) ∙ last .if2 .left), λ z. holds _ _ _ g (sym e ∙ z))
+    let words = words (c .before) in
+    let small = small (words .before) in
+    let e = words .record-words .ensures in
+    let target = ap (λ w. w .first / 2 ^ 59 % 16) e ∙ target-in _ small in
+    let side = ap (λ w. w .first / 2 ^ 63) e ∙ side-in _ small in
+    let r = c .finish .ensures (fields _ _ _ _ (read (c .before)) target side) in
+    (r .0 ∙ refused-later _ (words .before .if1 .left) (sym (last words) ∙ c .before .before .before .before .if2 .left), r .1)
 
 pub load-spec : {M : Type 1} → statement M
 load-spec =
@@ -86,19 +82,11 @@ load-spec =
     (tie.spec
     refused-requires
     returns
-    bit-at-requires
+    record-words-requires
     refused-requires-2
     returns-2
-    line-table-requires
-    read-requires
-    number-at-requires
-    bit-at-requires-2
-    check-requires
-    array-write-words
-    array-write-words-2
-    array-write-words-3
-    cast-words
-    array-write-words-4
-    cast-words-2
-    array-write-words-5
+    cast-target
+    cast-side
+    from-words-requires
+    finish-requires
     returns-3)

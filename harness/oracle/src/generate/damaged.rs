@@ -3,24 +3,70 @@
 
 use super::positions::{accepted, change, place};
 use super::random::Random;
-use calls::record::{Position, EMPTY, O, X};
+use calls::record::{Position, EMPTY, LENGTH, O, X};
 use calls::table::{board_state, Board};
+
+/// What is done to an accepted position.
+#[derive(Clone, Copy, Debug, PartialEq, Eq)]
+pub enum Damage {
+    /// A cell of code 3.
+    Code,
+    /// A target of 9 to 14.
+    Target,
+    /// A last bit of 1.
+    LastBit,
+    /// The other side to move.
+    Side,
+    /// A cell taken, emptied or turned.
+    Cell,
+    /// A board with lines of both sides.
+    BoardWonTwice,
+    /// Lines of boards, of either side or both.
+    LinesOfBoards,
+    /// A target that is done.
+    DoneTarget,
+}
+
+impl Damage {
+    pub const ALL: [Damage; 8] = [
+        Damage::Code,
+        Damage::Target,
+        Damage::LastBit,
+        Damage::Side,
+        Damage::Cell,
+        Damage::BoardWonTwice,
+        Damage::LinesOfBoards,
+        Damage::DoneTarget,
+    ];
+
+    /// One of them; the last, which can't be done to every position, twice as often.
+    fn any(random: &mut Random) -> Damage {
+        Damage::ALL[random.index(9).min(7)]
+    }
+}
 
 /// A damaged record, of any length.
 pub fn damaged(random: &mut Random) -> Vec<u8> {
     if random.once_in(30) {
-        return (0..21).map(|_| random.byte()).collect();
+        return any_bytes(random).to_vec();
     }
     let mut position = accepted(random);
-    damage(random, &mut position);
+    let kind = Damage::any(random);
+    damage(random, &mut position, kind);
     if random.once_in(5) {
-        damage(random, &mut position);
+        let kind = Damage::any(random);
+        damage(random, &mut position, kind);
     }
     let mut record = position.write().to_vec();
     if random.once_in(6) {
         resize(random, &mut record);
     }
     record
+}
+
+/// As many bytes as a record has, at random.
+pub fn any_bytes(random: &mut Random) -> [u8; LENGTH] {
+    std::array::from_fn(|_| random.byte())
 }
 
 /// Another length, most often close to 21.
@@ -33,19 +79,20 @@ fn resize(random: &mut Random, record: &mut Vec<u8>) {
     record.resize(length, 0);
 }
 
-fn damage(random: &mut Random, position: &mut Position) {
-    match random.below(9) {
-        0 => position.cells[random.index(9)][random.index(9)] = 3,
-        1 => position.target = 9 + random.below(6) as u8,
-        2 => position.last_bit = 1,
-        3 => position.side = 1 - position.side,
-        4 => {
+/// Does it to the position, if it can be done.
+pub fn damage(random: &mut Random, position: &mut Position, kind: Damage) {
+    match kind {
+        Damage::Code => position.cells[random.index(9)][random.index(9)] = 3,
+        Damage::Target => position.target = 9 + random.below(6) as u8,
+        Damage::LastBit => position.last_bit = 1,
+        Damage::Side => position.side = 1 - position.side,
+        Damage::Cell => {
             let (from, to) = random.pick(&[(EMPTY, X), (EMPTY, O), (X, EMPTY), (O, EMPTY), (X, O), (O, X)]);
             change(random, position, from, to)
         }
-        5 => lines_of_both_sides(random, position),
-        6 => lines_of_boards(random, position),
-        _ => done_target(random, position),
+        Damage::BoardWonTwice => lines_of_both_sides(random, position),
+        Damage::LinesOfBoards => lines_of_boards(random, position),
+        Damage::DoneTarget => done_target(random, position),
     }
 }
 

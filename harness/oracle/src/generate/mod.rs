@@ -1,13 +1,17 @@
 //! Calls at random, the same for the same seed: records reached by play and accepted ones that no
 //! game reaches, damaged ones, right and wrong moves, pairs of sheets, settings in and out of range.
+//! Beside them (`reading`) records that try loading place by place.
 
 mod damaged;
 mod moves;
 mod positions;
 mod random;
+pub mod reading;
 mod settings;
 mod sheets;
 
+pub use damaged::{any_bytes, damage, Damage};
+pub use positions::{reachable, reached};
 pub use random::Random;
 
 use calls::record::{Position, LENGTH};

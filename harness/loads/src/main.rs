@@ -1,0 +1,99 @@
+//! Times both readings of records, from three words and bit by bit, in one process, and counts their instructions
+//! where callgrind is installed: the cells alone, and a whole load with its checks. Both are proved; they come from
+//! libload_bench.a. Prints tables for docs/SPEED.md; fails if an answer differs from the other way's or from the
+//! one that is due.
+//!
+//! ```text
+//! loads [ROUNDS]             both tables
+//! loads once WHAT GROUP      one run on a group, by its number, for callgrind or another profiler
+//! ```
+
+mod agree;
+mod exports;
+mod groups;
+mod instructions;
+mod timing;
+
+use exports::Part;
+use groups::{Group, GROUPS};
+use measure::callgrind;
+use std::process::ExitCode;
+
+const ROUNDS: usize = 25;
+
+fn main() -> ExitCode {
+    let arguments: Vec<String> = std::env::args().skip(1).collect();
+    let words: Vec<&str> = arguments.iter().map(String::as_str).collect();
+    let done = match words.as_slice() {
+        ["once", what, group] => instructions::once(what, group).ok_or("no such run or group".to_string()),
+        [] => tables(ROUNDS),
+        [rounds] => match rounds.parse() {
+            Ok(rounds) if rounds > 0 => tables(rounds),
+            _ => return usage(),
+        },
+        _ => return usage(),
+    };
+    match done {
+        Ok(()) => ExitCode::SUCCESS,
+        Err(message) => {
+            eprintln!("loads: {}", message);
+            ExitCode::FAILURE
+        }
+    }
+}
+
+fn usage() -> ExitCode {
+    eprintln!("usage: loads [ROUNDS] | loads once {} GROUP, a number below {}", instructions::words(), GROUPS.len());
+    ExitCode::FAILURE
+}
+
+fn tables(rounds: usize) -> Result<(), String> {
+    let groups: Vec<(&Group, Vec<Vec<u8>>)> = GROUPS.iter().map(|group| (group, group.records())).collect();
+    for (group, records) in &groups {
+        agree::of_a_group(group, records)?;
+    }
+    let others = agree::of_others()?;
+    println!("Both ways agree on all records of the groups and on {} others. {} rounds.\n", others, rounds);
+    println!(
+        "| records | different ones | cells, ns: bit by bit, words | ratio | load, ns: bit by bit, words | ratio |"
+    );
+    println!("|---|---|---|---|---|---|");
+    for (group, records) in &groups {
+        let cells = if has_cells(group) { times(Part::Cells, records, rounds)? } else { "- | -".to_string() };
+        let load = times(Part::Load, records, rounds)?;
+        println!("| {} | {} | {} | {} |", group.name, records.len(), cells, load);
+    }
+    println!();
+    instruction_table()
+}
+
+/// Whether reading the cells alone says something: not if there are not 21 bytes.
+fn has_cells(group: &Group) -> bool {
+    group.check != 1
+}
+
+/// Two columns of the first table.
+fn times(part: Part, records: &[Vec<u8>], rounds: usize) -> Result<String, String> {
+    let times = timing::time(part, records, rounds)?;
+    Ok(format!("{:.0}, {:.0} | {}", times.each[0], times.each[1], times.ratio))
+}
+
+fn instruction_table() -> Result<(), String> {
+    if !callgrind::installed() {
+        println!("Instructions are not counted: valgrind is not installed.");
+        return Ok(());
+    }
+    println!("| instructions a record | cells: bit by bit, words | ratio | load: bit by bit, words | ratio |");
+    println!("|---|---|---|---|---|");
+    for (number, group) in GROUPS.iter().enumerate() {
+        let [bits, words, load_bits, load_words] = instructions::a_record(number)?;
+        let cells = if has_cells(group) { counts(bits, words) } else { "- | -".to_string() };
+        println!("| {} | {} | {} |", group.name, cells, counts(load_bits, load_words));
+    }
+    Ok(())
+}
+
+/// Two columns of the second table.
+fn counts(bits: f64, words: f64) -> String {
+    format!("{:.0}, {:.0} | **{:.1}**", bits, words, bits / words)
+}

@@ -1,0 +1,26 @@
+//! Instructions of this program, run once more under callgrind in a process of its own.
+
+use std::env;
+use std::process::{Command, Stdio};
+
+pub fn installed() -> bool {
+    let asked = Command::new("valgrind").arg("--version").stdout(Stdio::null()).stderr(Stdio::null()).status();
+    asked.is_ok_and(|status| status.success())
+}
+
+/// All instructions of this program when it is given these words, and what it printed then.
+pub fn counted(words: &[&str]) -> Result<(f64, String), String> {
+    let program = env::current_exe().map_err(|e| e.to_string())?;
+    let run = Command::new("valgrind")
+        .args(["--tool=callgrind", "--callgrind-out-file=/dev/null"])
+        .arg(program)
+        .args(words)
+        .output()
+        .map_err(|e| e.to_string())?;
+    let (printed, told) = (String::from_utf8_lossy(&run.stdout), String::from_utf8_lossy(&run.stderr));
+    let total = told.lines().find_map(|line| line.split("Collected : ").nth(1)).and_then(|n| n.trim().parse().ok());
+    match total {
+        Some(total) if run.status.success() => Ok((total, printed.trim().to_string())),
+        _ => Err(format!("callgrind failed on {}:\n{}", words.join(" "), told)),
+    }
+}

@@ -1,0 +1,106 @@
+//! Records that try loading place by place: every bit, every code at every cell, every target and length, each kind
+//! of damage. Which of them are refused, and by which check, is the table's to say.
+
+use super::damaged::{any_bytes, damage, Damage};
+use super::positions::{accepted, reached};
+use super::random::Random;
+use crate::load;
+use calls::record::{Position, LENGTH};
+use calls::table::{MOVES_ROOM, RECORD_ROOM};
+use calls::Call;
+
+/// Positions that are changed at every place: of random play after so many moves or at the game's end, and so many
+/// other accepted ones, most of which no game reaches.
+const PLIES: [u64; 10] = [0, 1, 2, 9, 18, 27, 36, 45, 54, 81];
+const OTHERS: usize = 6;
+/// The longest record.
+const LONGEST: usize = 24;
+/// Bits of a record.
+const BITS: usize = 8 * LENGTH;
+const CELLS: usize = 81;
+/// A cell of this code is refused.
+const NO_CODE: u8 = 3;
+/// The cell whose bits are in two words, if a record is read in words of eight bytes from its start on.
+const PARTED: usize = 29;
+/// How many records there are with one code at one cell, with three codes around the parted cell, of one kind of
+/// damage, and of bytes at random.
+const OF_A_CODE: usize = 4;
+const OF_THREE_CODES: usize = 4;
+const OF_A_DAMAGE: usize = 50;
+const AT_RANDOM: usize = 400;
+
+/// All of them, the same for the same numbers.
+pub fn records(random: &mut Random) -> Vec<Vec<u8>> {
+    let played = PLIES.map(|plies| Position::read(&load::record(&reached(random, plies))));
+    let others = [(); OTHERS].map(|()| accepted(random));
+    let mut records: Vec<Vec<u8>> = played.iter().chain(&others).flat_map(changed).collect();
+    for at in 0..CELLS {
+        (0..=NO_CODE).for_each(|code| records.extend((0..OF_A_CODE).map(|_| with_codes(random, at, &[code]))));
+    }
+    for codes in 0..64 {
+        let three = [codes / 16, codes / 4 % 4, codes % 4];
+        records.extend((0..OF_THREE_CODES).map(|_| with_codes(random, PARTED - 1, &three)));
+    }
+    for kind in Damage::ALL {
+        records.extend((0..OF_A_DAMAGE).map(|_| damaged_by(random, kind)));
+    }
+    records.extend((0..AT_RANDOM).map(|_| any_bytes(random).to_vec()));
+    records
+}
+
+/// Calls that load a record and then do little: the record itself is given back, and the position's legal moves
+/// and children are made. Of an accepted one the referee refuses the rule.
+pub fn calls_of(record: &[u8]) -> [Call; 5] {
+    let record = || record.to_vec();
+    let (pool, limit, budget, interval) = (82, u64::MAX, 1, 1);
+    [
+        Call::Replay { record: record(), moves: vec![], output: RECORD_ROOM },
+        Call::Moves { record: record(), output: MOVES_ROOM },
+        Call::Search { record: record(), rule: 0, pool, limit, budget, interval },
+        Call::Full { record: record(), pool, limit, budget, interval },
+        Call::Referee { record: record(), rule: 3 },
+    ]
+}
+
+/// The position's record with each bit turned, each code at each cell, each target, and of each length.
+fn changed(position: &Position) -> Vec<Vec<u8>> {
+    let turned = |bit: usize| {
+        let mut record = position.write();
+        record[bit / 8] ^= 128 >> (bit % 8);
+        record.to_vec()
+    };
+    let cell = |at: usize, code| {
+        let mut position = *position;
+        position.cells[at / 9][at % 9] = code;
+        position.write().to_vec()
+    };
+    let long = |length| {
+        let mut record = position.write().to_vec();
+        record.resize(length, 0);
+        record
+    };
+    let mut records: Vec<Vec<u8>> = (0..BITS).map(turned).collect();
+    records.extend((0..CELLS).flat_map(|at| (0..=NO_CODE).map(move |code| cell(at, code))));
+    records.extend((0..16).map(|target| Position { target, ..*position }.write().to_vec()));
+    records.extend((0..=LONGEST).map(long));
+    records
+}
+
+/// An accepted position with these codes from cell `at` on; where one is no code, it is put there afterwards.
+fn with_codes(random: &mut Random, at: usize, codes: &[u8]) -> Vec<u8> {
+    loop {
+        let mut position = accepted(random);
+        let cells = &mut position.cells.as_flattened_mut()[at..at + codes.len()];
+        if cells.iter().zip(codes).all(|(cell, code)| cell == code || *code == NO_CODE) {
+            cells.copy_from_slice(codes);
+            return position.write().to_vec();
+        }
+    }
+}
+
+/// The record of an accepted position after one kind of damage.
+fn damaged_by(random: &mut Random, kind: Damage) -> Vec<u8> {
+    let mut position = accepted(random);
+    damage(random, &mut position, kind);
+    position.write().to_vec()
+}
