@@ -49,7 +49,7 @@ uttt: library
 answers:
 	$(BUILD) -p oracle
 
-# The original on the manual's positions to try and on chosen small searches; the generators, lines and records.
+# The original on the manual's positions to try and on chosen small searches; the tests of the generators, of lines and records, and of `measure`.
 oracle-test:
 	$(CARGO) test --manifest-path harness/Cargo.toml --offline --locked -j $(JOBS) -p calls -p oracle -p measure
 

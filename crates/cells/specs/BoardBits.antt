@@ -9,11 +9,11 @@ use Rattle.cells.specs.declared.RecordWords.{RecordWords}
 use Rattle.cells.specs.RecordWords.{cellIn}
 use Rattle.cells.specs.Parts.{part-of-part, part-below}
 
--- Code c of the nine that 18 bits make, the first the most significant.
+-- The 18 bits of a board are nine codes; code 0 has the two most significant.
 abbrev pub codeIn : ℕ → ℕ → ℕ
 codeIn v c = v / 2 ^ (16 - 2 * c) % 4
 
--- Board 3, joined, has 18 bits.
+-- Five bits of the first word and thirteen of the second are 18.
 pub join-fits : (a v : ℕ) → v < 2 ^ 64 → a % 2 ^ 5 * 2 ^ 13 + v / 2 ^ 51 < 2 ^ 18
 join-fits a v h =
     let l : a % 2 ^ 5 < 32 = omega arith in

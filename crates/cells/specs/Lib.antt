@@ -2,9 +2,9 @@ pub mod RecordWords
 pub mod Cases
 pub mod Reading
 pub mod Marks
-pub mod BoardsRead
+pub mod MoreBoards
 pub mod Parts
 pub mod WordLaws
 pub mod BoardBits
 pub mod Triples
-pub mod Cells
+pub mod CellLaws

@@ -15,11 +15,11 @@ use Rattle.game.specs.Masks.{bit, mask, maskOf, mask-lt}
 use Rattle.cells.specs.declared.Codes.{Codes}
 use Rattle.cells.specs.Reading.{Masks, Putting}
 
-pub mask-more : (f : ℕ → Bool) (cs : List ℕ) (v : ℕ) → maskOf f (cs ++ (v ∷ [])) ≡ maskOf f cs + bit (f v) * 2 ^ length cs
+mask-more : (f : ℕ → Bool) (cs : List ℕ) (v : ℕ) → maskOf f (cs ++ (v ∷ [])) ≡ maskOf f cs + bit (f v) * 2 ^ length cs
 mask-more f [] v = rw (pow-zero 2) (omega arith)
 mask-more f (c ∷ cs) v = rw (mask-more f cs v, pow-succ' 2 (length cs)) (omega arith)
 
-pub all-more {ℓ} : {A : Type ℓ} (f : A → Bool) (l : List A) (x : A) → all f (l ++ (x ∷ [])) ≡ (all f l && f x)
+all-more {ℓ} : {A : Type ℓ} (f : A → Bool) (l : List A) (x : A) → all f (l ++ (x ∷ [])) ≡ (all f l && f x)
 all-more f [] x = and-true (f x)
 all-more f (y ∷ l) x = rw (all-more f l x) (sym (and-assoc (f y) (all f l) (f x)))
 

@@ -21,7 +21,7 @@ module _ (f : ℕ → ℕ) (o : ℕ) where
     pub number-back : (n k : ℕ) → number f o (n + k) % 2 ^ k ≡ number f (o + n) k
     number-back n k = rw (number-more n k) (low (number f o n) k (number-lt f (o + n) b k))
 
-    -- k bits between n before them and s after
+    -- the k bits that have n ahead of them and s behind
     pub number-part : (n k s : ℕ) → number f o (n + k + s) / 2 ^ s % 2 ^ k ≡ number f (o + n) k
     number-part n k s = rw (number-front (n + k) s) (number-back n k)
 

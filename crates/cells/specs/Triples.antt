@@ -1,4 +1,4 @@
--- The nine codes in 18 bits as masks, three codes at a time by a table of 64 entries. Rests on Reading and BoardBits.
+-- Masks of the nine codes that 18 bits make, by a table of 64 entries, three codes to an entry. Rests on Reading, BoardBits and the game's masks.
 use mathlib.Core.Path.{_≡_, sym, _∙_}
 use mathlib.Core.List.{List, [], _∷_}
 use Prim.Native.Nat.{ℕ, _+_, _*_, _/_, _%_, _^_, _<_}
@@ -14,12 +14,12 @@ use Rattle.cells.specs.Reading.{Masks}
 use Rattle.cells.specs.BoardBits.{codeIn}
 
 -- The three codes of six bits.
-abbrev pub triple : ℕ → List ℕ
-triple n = n / 16 ∷ n / 4 % 4 ∷ n % 4 ∷ []
+abbrev pub threeCodes : ℕ → List ℕ
+threeCodes n = n / 16 ∷ n / 4 % 4 ∷ n % 4 ∷ []
 
 -- Their masks, nine bits apart.
 abbrev pub packed : ℕ → ℕ
-packed n = mask 1 (triple n) + mask 2 (triple n) * 512 + mask 3 (triple n) * 262144
+packed n = mask 1 (threeCodes n) + mask 2 (threeCodes n) * 512 + mask 3 (threeCodes n) * 262144
 
 -- Entry n of the table.
 unfoldable pub tripleTable : List ℕ
@@ -29,20 +29,20 @@ pub triple-at : (n : ℕ) → n < 64 → getD tripleTable n 0 ≡ packed n
 unfolding tripleTable
 triple-at n h = answers-zero packed 64 n 0 h
 
-triple-lt : (n k : ℕ) → mask k (triple n) < 8
-triple-lt n k = mask-lt (λ c. eqb c k) (triple n)
+triple-lt : (n k : ℕ) → mask k (threeCodes n) < 8
+triple-lt n k = mask-lt (λ c. eqb c k) (threeCodes n)
 
 pub packed-lt : (n : ℕ) → packed n < 2097152
 packed-lt n = omega (arith, triple-lt n 1, triple-lt n 2, triple-lt n 3)
 
--- Three triples, one after the other.
-abbrev pub three : ℕ → ℕ
-three v = packed (v / 4096) + packed (v / 64 % 64) * 8 + packed (v % 64) * 64
+-- The entries of the three triples that 18 bits are, each at its place among nine.
+abbrev pub tripleSum : ℕ → ℕ
+tripleSum v = packed (v / 4096) + packed (v / 64 % 64) * 8 + packed (v % 64) * 64
 
 module _ (v : ℕ) (h : v < 262144) where
   -- the mask of code k in nine codes, from those of the triples
   inThree : ℕ → ℕ
-  inThree k = mask k (triple (v / 4096)) + mask k (triple (v / 64 % 64)) * 8 + mask k (triple (v % 64)) * 64
+  inThree k = mask k (threeCodes (v / 4096)) + mask k (threeCodes (v / 64 % 64)) * 8 + mask k (threeCodes (v % 64)) * 64
 
   split : (k a b c d e f g i j : ℕ)
       → mask k (a ∷ b ∷ c ∷ d ∷ e ∷ f ∷ g ∷ i ∷ j ∷ []) ≡ mask k (a ∷ b ∷ c ∷ []) + mask k (d ∷ e ∷ f ∷ []) * 8 + mask k (g ∷ i ∷ j ∷ []) * 64
@@ -67,11 +67,11 @@ module _ (v : ℕ) (h : v < 262144) where
   in-three-lt k = omega (arith, triple-lt (v / 4096) k, triple-lt (v / 64 % 64) k, triple-lt (v % 64) k)
 
   -- the sum of the table's entries has the three masks nine bits apart
-  apart : three v ≡ inThree 1 + inThree 2 * 512 + inThree 3 * 262144
+  apart : tripleSum v ≡ inThree 1 + inThree 2 * 512 + inThree 3 * 262144
   unfolding inThree
   apart = omega arith
 
-  pub three-law : (r : Codes) (p : ℕ) → p ≡ three v → r .x ≡ p % 512 → r .o ≡ p / 512 % 512 → r .rest ≡ p / 262144 → Masks (answers (codeIn v) 0 9) r
+  pub three-law : (r : Codes) (p : ℕ) → p ≡ tripleSum v → r .x ≡ p % 512 → r .o ≡ p / 512 % 512 → r .rest ≡ p / 262144 → Masks (answers (codeIn v) 0 9) r
   three-law r p e ex eo er =
       let q = e ∙ apart in
       record {

@@ -10,7 +10,6 @@ use lib.ListN.{getD}
 use Rattle.rules.specs.Record.{bitAt, number}
 use Rattle.rules.specs.Bits.{bit, number-of-bits}
 use Rattle.rules.specs.Roundtrip.{load-bits}
-use Rattle.cells.specs.declared.RecordWords.{RecordWords}
 use Rattle.cells.specs.RecordWords.{together, wordsOf, cellIn, CellsFromWords}
 use Rattle.cells.specs.Parts.{number-more, number-front, number-back, number-part}
 
@@ -35,7 +34,7 @@ module _ (bs : List ℕ) where
           rw (q, r)
 
   -- n bytes are the number that their bits make.
-  pub together-bits : ((k : ℕ) → getD bs k 0 < 256) → (k n : ℕ) → together bs k n ≡ number (bitAt bs) (8 * k) (8 * n)
+  together-bits : ((k : ℕ) → getD bs k 0 < 256) → (k n : ℕ) → together bs k n ≡ number (bitAt bs) (8 * k) (8 * n)
   together-bits small k zero = refl
   together-bits small k (suc n) =
       let e : 8 * suc n ≡ 8 * n + 8 = omega arith in
@@ -43,8 +42,8 @@ module _ (bs : List ℕ) where
       let last = byte-bits (k + n) (small (k + n)) in
       rw (e, number-more (bitAt bs) (8 * k) (8 * n) 8, ← d, last, together-bits small k n)
 
-  -- k bits from o on, of the 64 that a word has from a on
-  pub part : (a o k v : ℕ) → v ≡ number (bitAt bs) a 64 → a ≤ o → o + k ≤ a + 64 → v / 2 ^ (a + 64 - o - k) % 2 ^ k ≡ number (bitAt bs) o k
+  -- the k bits from bit o on, out of a word that begins at bit a
+  part : (a o k v : ℕ) → v ≡ number (bitAt bs) a 64 → a ≤ o → o + k ≤ a + 64 → v / 2 ^ (a + 64 - o - k) % 2 ^ k ≡ number (bitAt bs) o k
   part a o k v e h g =
       let s : ℕ = a + 64 - o - k in
       let n : ℕ = o - a in
@@ -53,15 +52,15 @@ module _ (bs : List ℕ) where
       ap (λ m. m / 2 ^ s % 2 ^ k) (e ∙ ap (number (bitAt bs) a) q) ∙ number-part (bitAt bs) a (load-bits bs) n k s ∙ ap (λ m. number (bitAt bs) m k) r
 
   module _ (small : (k : ℕ) → getD bs k 0 < 256) where
-    pub first-bits : wordsOf bs .first ≡ number (bitAt bs) 0 64
+    first-bits : wordsOf bs .first ≡ number (bitAt bs) 0 64
     unfolding wordsOf
     first-bits = together-bits small 0 8
 
-    pub second-bits : wordsOf bs .second ≡ number (bitAt bs) 64 64
+    second-bits : wordsOf bs .second ≡ number (bitAt bs) 64 64
     unfolding wordsOf
     second-bits = together-bits small 8 8
 
-    pub third-bits : wordsOf bs .third ≡ number (bitAt bs) 104 64
+    third-bits : wordsOf bs .third ≡ number (bitAt bs) 104 64
     unfolding wordsOf
     third-bits = together-bits small 13 8
 

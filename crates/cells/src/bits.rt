@@ -45,7 +45,7 @@ pub fn board_cells(bytes: &[u8], b: usize) -> Codes
     codes
 }
 
-// The cells of all nine boards.
+// All 81 cells.
 pub fn cells(bytes: &[u8]) -> Cells
     requires { ⌜ 21 ≤ length (now bytes) ⌝ }
     ensures { λ r. ⌜ CellsRead (positionOf (now (bytes .entry)) .cells) r ⌝ }

@@ -56,7 +56,7 @@ fn two_at(bytes: &[u8], k: usize) -> u64
     bytes[k] as u64 * 256 + bytes[k + 1] as u64
 }
 
-// Four of them.
+// Four bytes from byte k on.
 fn four_at(bytes: &[u8], k: usize) -> u64
     requires { ⌜ k + 4 ≤ length (now bytes) ⌝ }
     ensures { λ r. ⌜ (r ≡ together (now (bytes .entry)) k 4) × (r < 4294967296) ⌝ }
@@ -64,7 +64,7 @@ fn four_at(bytes: &[u8], k: usize) -> u64
     two_at(bytes, k) * 65536 + two_at(bytes, k + 2)
 }
 
-// Eight: a word.
+// A word: the eight bytes from byte k on.
 fn word_at(bytes: &[u8], k: usize) -> u64
     requires { ⌜ k + 8 ≤ length (now bytes) ⌝ }
     ensures { λ r. ⌜ r ≡ together (now (bytes .entry)) k 8 ⌝ }
@@ -72,7 +72,7 @@ fn word_at(bytes: &[u8], k: usize) -> u64
     four_at(bytes, k) * 4294967296 + four_at(bytes, k + 4)
 }
 
-// The bytes from 0, 8 and 13 on: bits 0 to 63, 64 to 127 and 104 to 167.
+// A record's three words: those that begin at bytes 0, 8 and 13.
 pub struct RecordWords {
     pub first: u64,
     pub second: u64,
@@ -121,7 +121,7 @@ fn triple(triples: &[u32; 64], n: u64) -> u32
     triples[n as usize]
 }
 
-// The nine codes in 18 bits.
+// The masks of a board's nine codes, from its 18 bits.
 fn codes_of(triples: &[u32; 64], v: u64) -> Codes
     requires { ⌜ (now triples ≡ tripleTable) × (v < 262144) ⌝ }
     ensures { λ r. ⌜ Masks (answers (codeIn v) 0 9) r ⌝ }
@@ -136,7 +136,7 @@ fn codes_of(triples: &[u32; 64], v: u64) -> Codes
     }
 }
 
-// The cells of board b, from the words.
+// Board b as masks, taken from the words.
 fn board_cells(w: RecordWords, triples: &[u32; 64], b: usize) -> Codes
     requires { ⌜ (now triples ≡ tripleTable) × (b < 9) ⌝ }
     ensures { λ r. ⌜ Masks (board (answers (cellIn w) 0 81) b) r ⌝ }
@@ -150,7 +150,7 @@ pub struct Cells {
     pub rest: u16,
 }
 
-// The cells of all nine boards, from the words.
+// All 81 cells, taken from the words.
 pub fn from_words(w: RecordWords) -> Cells
     ensures { λ r. ⌜ CellsRead (answers (cellIn w) 0 81) r ⌝ }
 {

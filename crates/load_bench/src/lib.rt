@@ -8,14 +8,20 @@ ghost use Rattle.game.specs.Words.{Holds};
 ghost use Rattle.cells.specs.Reading.{BoardsRead};
 use record::Loaded;
 
-// The cells of a record as C has them: X's nine masks, O's, and five words of 0; rest is 0 exactly if no code is 3.
+// A record's length in bytes.
+const RECORD_LENGTH: usize = 21;
+
+// Its last bit, which is 0.
+const LAST_BIT: usize = 167;
+
+// The cells of a record as C has them: X's nine masks, O's, and five words without a meaning; rest is 0 exactly if no code is 3.
 #[repr(C)]
 pub struct BenchCells {
     pub words: [u16; 23],
     pub rest: u16,
 }
 
-// What is answered for fewer than 21 bytes.
+// For fewer than 21 bytes, of which nothing is promised.
 fn no_cells() -> BenchCells {
     let words = [0u16; 23];
     BenchCells { words, rest: 0 }
@@ -26,7 +32,7 @@ fn no_cells() -> BenchCells {
 pub extern "C" fn bench_cells_from_words(bytes: &[u8]) -> BenchCells
     ensures { λ r. ⌜ (21 ≤ length (now (bytes .entry)) → BoardsRead (positionOf (now (bytes .entry)) .cells) 9 (r .words) (r .rest)) ⌝ }
 {
-    if bytes.len() < 21 {
+    if bytes.len() < RECORD_LENGTH {
         return no_cells();
     }
     let read = cells::from_words(cells::record_words(bytes));
@@ -42,7 +48,7 @@ pub extern "C" fn bench_cells_from_words(bytes: &[u8]) -> BenchCells
 pub extern "C" fn bench_cells_bit_by_bit(bytes: &[u8]) -> BenchCells
     ensures { λ r. ⌜ (21 ≤ length (now (bytes .entry)) → BoardsRead (positionOf (now (bytes .entry)) .cells) 9 (r .words) (r .rest)) ⌝ }
 {
-    if bytes.len() < 21 {
+    if bytes.len() < RECORD_LENGTH {
         return no_cells();
     }
     let read = cells::bits::cells(bytes);
@@ -57,15 +63,15 @@ pub extern "C" fn bench_cells_bit_by_bit(bytes: &[u8]) -> BenchCells
 fn load_bit_by_bit(bytes: &[u8]) -> Loaded
     ensures { λ r. ⌜ (r .code ≡ refusal (now (bytes .entry))) × (r .code ≡ 0 → Holds (positionOf (now (bytes .entry))) (r .game .words) 0) ⌝ }
 {
-    if bytes.len() != 21 {
+    if bytes.len() != RECORD_LENGTH {
         return record::refused(1);
     }
-    if cells::bits::bit_at(bytes, 167) != 0 {
+    if cells::bits::bit_at(bytes, LAST_BIT) != 0 {
         return record::refused(2);
     }
     let target = cells::bits::number_at(bytes, 1, 4);
     let side = cells::bits::bit_at(bytes, 0);
-    record::finish(cells::bits::cells(bytes), target, side)
+    record::load_fields(cells::bits::cells(bytes), target, side)
 }
 
 // A load as C has it: 0 and the position's words, or the number of the check that refuses the record.

@@ -1,4 +1,4 @@
--- One more board: what the boards before it show becomes what they all show. Rests on Reading and Marks.
+-- One more board: what the boards before it show becomes what they all show. Rests on Reading, Marks and the laws of crate cells.
 use mathlib.Core.Path.{_≡_, refl, ap, ap₂, sym, _∙_}
 use mathlib.Core.Bool.{Bool, true, false, _&&_, _||_}
 use mathlib.Core.List.{List, [], _∷_, _++_}
@@ -19,7 +19,7 @@ use Rattle.game.specs.Lines.{lineIn}
 use Rattle.cells.specs.declared.Codes.{Codes}
 use Rattle.cells.specs.Reading.{Masks, Putting}
 use Rattle.cells.specs.Marks.{no-codes, putting, put-next}
-use Rattle.cells.specs.BoardsRead.{no-threes}
+use Rattle.cells.specs.MoreBoards.{no-threes, cells-coded}
 use Rattle.record.specs.declared.Shown.{Shown}
 use Rattle.record.specs.Reading.{Whole, Coded, Shows, Adding}
 use Rattle.record.specs.Marks.{any-more, x-line, o-line}
@@ -33,7 +33,7 @@ all-small (c ∷ cs) h =
 -- The masks of a board whose cells are all below 3.
 pub board-coded : (ws : List ℕ) (g : Coded ws) (b : ℕ) → b < 9 → Masks (board (g .cells) b) (record { x = getD ws b 0; o = getD ws (9 + b) 0; rest = 0 })
 board-coded ws g b h =
-    let coded = all-board (λ c. ltb c 3) (g .cells) b (g .coded) in
+    let coded = all-board (λ c. ltb c 3) (g .cells) b (cells-coded (g .cells) ws 0 (g .whole) (g .read)) in
     let small = all-small (board (g .cells) b) coded in
     record {
       small = small;
@@ -42,8 +42,8 @@ board-coded ws g b h =
       rest = sym (eqb-true _ 0 (sym (no-threes (board (g .cells) b) small) ∙ coded));
     }
 
-pub no-boards : (cs : List ℕ) → Shows cs 0 (record { states = record { x = 0; o = 0; rest = 0 }; both = false })
-no-boards cs = record { states = no-codes; both = refl }
+pub nothing-shown : (cs : List ℕ) → Shows cs 0 (record { states = record { x = 0; o = 0; rest = 0 }; both = false })
+nothing-shown cs = record { states = no-codes; both = refl }
 
 module _ (r : Shown) (b : ℕ) (m : Codes) (g : Adding r b m) where
   -- the board's nine cells

@@ -1,4 +1,4 @@
--- Checks 2 to 6 as the code makes them, on what it keeps of the boards of a position with no code 3. Rests on Reading and Marks.
+-- Checks 2 to 6 as the code makes them, on what it keeps of the boards of a position with no code 3. Rests on Reading, Marks and Counted.
 use mathlib.Core.Path.{_≡_, refl, sym, _∙_}
 use mathlib.Core.Bool.{Bool, true, false, cond, not, _&&_, _||_}
 use mathlib.Core.List.{List, [], _∷_, _++_}
@@ -79,7 +79,7 @@ module _ (r : Boards) (t s : ℕ) (g : Checking r t s) where
   middle = refuses 3 (not (eqb (r .xs) (r .os + s))) ∷ refuses 4 (r .both) ∷ refuses 5 (lineIn (sideMask (r .states) s)) ∷ []
 
   -- Checks 2 to 6 in the code's terms.
-  pub check-law : positionRefusal (g .position)
+  check-law : positionRefusal (g .position)
       ≡ firstRefusal (refuses 2 (eqb (targetRefusal t doneBits) 2) ∷ (middle ++ (targetRefusal t doneBits ∷ [])))
   unfolding positionRefusal
   check-law =

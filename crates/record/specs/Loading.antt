@@ -1,4 +1,4 @@
--- A record that was read: the checks that refuse it, and the words of its position. Rests on Reading.
+-- A record that was read: the checks that refuse it, and the words of its position. Rests on Reading and on crate cells.
 use mathlib.Core.Path.{_≡_, refl, ap, sym, _∙_}
 use mathlib.Core.List.{List, [], _∷_, _++_, append-assoc}
 use Prim.Native.Nat.{ℕ, _+_, _*_, _<_}
@@ -20,6 +20,7 @@ use Rattle.game.specs.Words.{Holds}
 use Rattle.cells.specs.declared.Codes.{Codes}
 use Rattle.cells.specs.declared.Cells.{Cells}
 use Rattle.cells.specs.Reading.{Masks, CellsRead}
+use Rattle.cells.specs.MoreBoards.{cells-coded}
 use Rattle.record.specs.declared.Boards.{Boards}
 use Rattle.record.specs.Reading.{Coded, Shows, Checking, FieldsRead}
 
@@ -60,22 +61,19 @@ some-fields cs r t s n read h = record {
 
 -- The cells that were read: code 3 among them, or none.
 module _ (r : Cells) (t s : ℕ) (g : FieldsRead r t s) where
-  pub no-threes : all (λ c. ltb c 3) (g .position .cells) ≡ eqb (r .rest) 0
-  no-threes = ap (all (λ c. ltb c 3)) (sym (take-all 81 (g .position .cells) (omega (arith, g .whole)))) ∙ g .read .coded
-
   pub refused-code : (r .rest ≡ 0 → ⊥) → 2 ≡ positionRefusal (g .position)
   unfolding positionRefusal firstRefusal
-  refused-code n = rw (no-threes, ne-eqb (r .rest) 0 n)
+  refused-code n = rw (cells-coded (g .position .cells) (r .words) (r .rest) (g .whole) (g .read), ne-eqb (r .rest) 0 n)
 
   unfoldable pub coded : r .rest ≡ 0 → Coded (r .words)
-  coded e = record { cells = g .position .cells; whole = g .whole; coded = no-threes ∙ eq-eqb (r .rest) 0 e; read = rw e at (g .read) }
+  coded e = record { cells = g .position .cells; whole = g .whole; read = rw e at (g .read) }
 
   unfoldable pub checking : (e : r .rest ≡ 0) (b : Boards) → Shows (g .position .cells) 9 (record { states = b .states; both = b .both })
       → b .xs ≡ count 1 (g .position .cells) → b .os ≡ count 2 (g .position .cells) → Checking b t s
   checking e b shows xs os = record {
     position = g .position;
     whole = g .whole;
-    coded = no-threes ∙ eq-eqb (r .rest) 0 e;
+    coded = cells-coded (g .position .cells) (r .words) (r .rest) (g .whole) (g .read) ∙ eq-eqb (r .rest) 0 e;
     shows = shows;
     xs = xs;
     os = os;

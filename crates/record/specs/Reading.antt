@@ -21,11 +21,10 @@ pub record Whole (m : Codes) : Type 0 where
   pub count : length codes ≡ 9
   pub masks : Masks codes m
 
--- The words have 81 cells, each empty, X or O.
+-- The words have 81 cells, none of code 3.
 pub record Coded (ws : List ℕ) : Type 0 where
   pub cells : List ℕ
   pub whole : length cells ≡ 81
-  pub coded : all (λ c. ltb c 3) cells ≡ true
   pub read : BoardsRead cells 9 ws 0
 
 -- What the first n boards of 81 cells show.
@@ -41,7 +40,7 @@ pub record Adding (r : Shown) (b : ℕ) (m : Codes) : Type 0 where
   pub shows : Shows cells b r
   pub board-masks : Masks (board cells b) m
 
--- The nine masks of a side stand from word i on.
+-- Words that have 81 cells, and a side whose first mask is word i.
 pub record Counting (ws : List ℕ) (i : ℕ) : Type 0 where
   pub side : Player
   pub place : i ≡ sideBit side * 9

@@ -106,13 +106,14 @@ fn show(words: &[u16; 23], table: &[u8; 512]) -> Shown
     shown
 }
 
+// A mask as a part of a wider number.
 fn wide(m: u16) -> u32
     ensures { λ r. ⌜ r ≡ m ⌝ }
 {
     m as u32
 }
 
-// The bits of three boards' masks, from word i on.
+// How many bits the masks in words i, i + 1 and i + 2 have.
 fn count_row(words: &[u16; 23], i: usize) -> u32
     requires { ⌜ (i ≤ 15) × ((j : ℕ) → j < 3 → getD (now words) (i + j) 0 < 512) ⌝ }
     ensures { λ r. ⌜ (r ≡ onesFrom (now (words .entry)) i 3) × (r ≤ 27) ⌝ }
@@ -120,7 +121,7 @@ fn count_row(words: &[u16; 23], i: usize) -> u32
     u32::count_ones(wide(words[i]) + wide(words[i + 1]) * 512 + wide(words[i + 2]) * 262144)
 }
 
-// The cells of a side, whose nine masks stand from word i on.
+// How many cells a side has; i is 0 for X, 9 for O.
 fn count_cells(words: &[u16; 23], i: usize) -> u32
     requires { ⌜ Counting (now words) i ⌝ }
     ensures { λ r. ⌜ ((g : Counting (now (words .entry)) i) → r ≡ count (mark (g .side)) (g .coded .cells)) ⌝ }
@@ -160,7 +161,7 @@ struct Boards {
     both: bool,
 }
 
-// Checks 2 to 6, in their order, once no cell has code 3. Where both sides have a line of boards, the side to move has one.
+// Checks 2 (the target) to 6, in their order, once no cell has code 3. Where both sides have a line of boards, the side to move has one.
 fn check(boards: Boards, target: u8, side: u8, table: &[u8; 512]) -> u8
     requires { ⌜ Checking boards target side × (now table ≡ lineTable) ⌝ }
     ensures { λ r. ⌜ ((g : Checking boards target side) → r ≡ positionRefusal (g .position)) ⌝ }
@@ -188,6 +189,7 @@ pub struct Loaded {
     pub game: Game,
 }
 
+// A refusal; its position is of no use.
 pub fn refused(code: u8) -> Loaded
     ensures { λ r. ⌜ r .code ≡ code ⌝ }
 {
@@ -196,8 +198,8 @@ pub fn refused(code: u8) -> Loaded
     Loaded { code, game }
 }
 
-// Checks 2 to 6 of what was read, in their order, and the position's words.
-pub fn finish(read: Cells, target: u8, side: u8) -> Loaded
+// All that comes after reading: check 2 of the cells, the other checks, and the position's words.
+pub fn load_fields(read: Cells, target: u8, side: u8) -> Loaded
     requires { ⌜ FieldsRead read target side ⌝ }
     ensures { λ r. ⌜ ((g : FieldsRead read target side) → (r .code ≡ positionRefusal (g .position)) × (r .code ≡ 0 → Holds (g .position) (r .game .words) 0)) ⌝ }
 {
@@ -237,7 +239,7 @@ pub fn load(bytes: &[u8]) -> Loaded
     }
     let target = ((w.first >> 59) % 16) as u8;
     let side = (w.first >> 63) as u8;
-    finish(cells::from_words(w), target, side)
+    load_fields(cells::from_words(w), target, side)
 }
 
 // A bit of cell i: the high one says O (1), the low one X (0).

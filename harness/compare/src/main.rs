@@ -3,7 +3,7 @@
 //! it, and fails.
 //!
 //! ```text
-//! compare [SEED [COUNT]]
+//! compare [SEED [COUNT]]    the cases, then records that try every place, then COUNT calls at random
 //! ```
 
 mod shrink;

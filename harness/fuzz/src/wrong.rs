@@ -8,11 +8,12 @@ use crate::exports::{Exports, LIBRARY};
 use calls::record::{Position, EMPTY, LENGTH};
 use uttt::ffi;
 
-pub const ALL: [(&str, Exports); 35] = [
+pub const ALL: [(&str, Exports); 36] = [
     ("moves reads a byte past the record", Exports { moves: moves_past, ..LIBRARY }),
     ("moves reads a byte before the record", Exports { moves: moves_before, ..LIBRARY }),
     ("moves counts one move more", Exports { moves: moves_more, ..LIBRARY }),
     ("moves writes past its last move", Exports { moves: moves_beyond, ..LIBRARY }),
+    ("moves reads cell 29 from bits 62 and 63", Exports { moves: moves_cell_29, ..LIBRARY }),
     ("replay writes before it refuses", Exports { replay: replay_early, ..LIBRARY }),
     ("replay writes a byte past the record", Exports { replay: replay_beyond, ..LIBRARY }),
     ("replay gives an index past the moves", Exports { replay: replay_index, ..LIBRARY }),
@@ -104,6 +105,11 @@ macro_rules! replay_misread {
 fn taken_from(record: &[u8; LENGTH], place: impl Fn(usize) -> usize) -> [u8; LENGTH] {
     let bit = |at: usize| record[at / 8] >> (7 - at % 8) & 1;
     std::array::from_fn(|byte| (0..8).map(|i| bit(place(8 * byte + i)) << (7 - i)).sum())
+}
+
+/// The record with cell 29 from bits 62 and 63.
+fn with_cell_29_misread(record: &[u8; LENGTH]) -> [u8; LENGTH] {
+    taken_from(record, |bit| if bit == 63 || bit == 64 { bit - 1 } else { bit })
 }
 
 /// A search with something looked at before it and something done after it.
@@ -217,6 +223,14 @@ moves!(moves_beyond, |r, n| (), |a, out, room| when!(
     *out.add(a.count as usize) ^= 1
 ));
 
+unsafe extern "C" fn moves_cell_29(r: *const u8, n: usize, out: *mut u8, room: usize) -> ffi::MovesAnswer {
+    if n != LENGTH {
+        return ffi::uttt_legal_moves(r, n, out, room);
+    }
+    let read = with_cell_29_misread(&*r.cast());
+    ffi::uttt_legal_moves(read.as_ptr(), n, out, room)
+}
+
 replay!(replay_early, |m, k| (), |a, out, room| when!(a.code > 7, *out ^= 1));
 replay!(replay_beyond, |m, k| (), |a, out, room| when!(a.code == 0 && room > 21, *out.add(21) ^= 1));
 replay!(replay_index, |m, k| (), |a, out, room| when!(a.code > 10, a.index = k as u64));
@@ -224,7 +238,7 @@ replay!(replay_moves, |m, k| when!(k > 0, m.cast_mut().write_volatile(m.read_vol
 
 // Three words of eight bytes: cell 29 from the first of them alone, the third from byte 12, and board 3 put together
 // from the first and the second one bit off.
-replay_misread!(replay_cell_29, |record| taken_from(record, |bit| if bit == 63 || bit == 64 { bit - 1 } else { bit }));
+replay_misread!(replay_cell_29, |record| with_cell_29_misread(record));
 replay_misread!(replay_a_byte_early, |record| {
     taken_from(record, |bit| if (113..167).contains(&bit) { bit - 8 } else { bit })
 });

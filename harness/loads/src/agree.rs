@@ -19,33 +19,37 @@ const SIDE: usize = 22;
 
 /// Every record of a group is answered alike, and as the group's check says.
 pub fn of_a_group(group: &Group, records: &[Vec<u8>]) -> Result<(), String> {
-    for record in records {
-        same(record).map_err(|m| format!("{}: {}", group.name, m))?;
-        for code in WAYS.map(|way| exports::load(way, record).code) {
-            if code != group.check {
-                return Err(format!("{}: code {} for {}", group.name, code, hex::show(record)));
-            }
-        }
-    }
-    match records {
-        [] => Err(format!("{}: no records", group.name)),
-        _ => Ok(()),
+    let one = |record: &Vec<u8>| same(record).and_then(|()| gives(group.check, record));
+    let all = match records {
+        [] => Err("no records".to_string()),
+        _ => records.iter().try_for_each(one),
+    };
+    all.map_err(|m| format!("{}: {}", group.name, m))
+}
+
+/// Whether both ways give the record this code; else the other one.
+fn gives(code: u32, record: &[u8]) -> Result<(), String> {
+    let codes = WAYS.map(|way| exports::load(way, record).code);
+    match codes.iter().find(|given| **given != code) {
+        Some(other) => Err(format!("code {} for {}", other, hex::show(record))),
+        None => Ok(()),
     }
 }
 
 /// Bytes at random, records that try every place of a record, and the generator's, are answered alike. Gives how many.
 pub fn of_others() -> Result<usize, String> {
     let mut random = Random::new(SEED);
-    let places = reading::records(&mut random);
-    places.iter().try_for_each(|record| same(record))?;
-    for _ in 0..AT_RANDOM {
-        same(&any_bytes(&mut random))?;
-    }
-    for _ in 0..GENERATED {
-        let Call::Moves { record, .. } = generate::call(&mut random, Kind::Moves) else { unreachable!() };
-        same(&record)?;
-    }
-    Ok(places.len() + AT_RANDOM + GENERATED)
+    let mut records = reading::records(&mut random);
+    records.extend((0..AT_RANDOM).map(|_| any_bytes(&mut random).to_vec()));
+    records.extend((0..GENERATED).map(|_| generated(&mut random)));
+    records.iter().try_for_each(|record| same(record))?;
+    Ok(records.len())
+}
+
+/// A record of the generator's.
+fn generated(random: &mut Random) -> Vec<u8> {
+    let Call::Moves { record, .. } = generate::call(random, Kind::Moves) else { unreachable!() };
+    record
 }
 
 /// Whether both ways answer as `calls` reads the record; else what differs.

@@ -72,6 +72,11 @@ impl Group {
         records
     }
 
+    /// Whether reading the cells alone says something: not if there are not 21 bytes.
+    pub fn has_cells(&self) -> bool {
+        self.check != 1
+    }
+
     /// Whether the table says of the record what the group stands for.
     fn fits(&self, record: &[u8]) -> bool {
         let taken = |bytes: &[u8; LENGTH]| 81 - Position::read(bytes).count(EMPTY);

@@ -20,11 +20,13 @@ use measure::callgrind;
 use std::process::ExitCode;
 
 const ROUNDS: usize = 25;
+/// Two columns of either table for a group without cells.
+const NO_CELLS: &str = "- | -";
 
 fn main() -> ExitCode {
-    let arguments: Vec<String> = std::env::args().skip(1).collect();
-    let words: Vec<&str> = arguments.iter().map(String::as_str).collect();
-    let done = match words.as_slice() {
+    let given: Vec<String> = std::env::args().skip(1).collect();
+    let arguments: Vec<&str> = given.iter().map(String::as_str).collect();
+    let done = match arguments.as_slice() {
         ["once", what, group] => instructions::once(what, group).ok_or("no such run or group".to_string()),
         [] => tables(ROUNDS),
         [rounds] => match rounds.parse() {
@@ -43,33 +45,31 @@ fn main() -> ExitCode {
 }
 
 fn usage() -> ExitCode {
-    eprintln!("usage: loads [ROUNDS] | loads once {} GROUP, a number below {}", instructions::words(), GROUPS.len());
+    eprintln!("usage: loads [ROUNDS] | loads once {} GROUP, a number below {}", instructions::choices(), GROUPS.len());
     ExitCode::FAILURE
 }
 
 fn tables(rounds: usize) -> Result<(), String> {
     let groups: Vec<(&Group, Vec<Vec<u8>>)> = GROUPS.iter().map(|group| (group, group.records())).collect();
-    for (group, records) in &groups {
-        agree::of_a_group(group, records)?;
-    }
+    groups.iter().try_for_each(|(group, records)| agree::of_a_group(group, records))?;
     let others = agree::of_others()?;
     println!("Both ways agree on all records of the groups and on {} others. {} rounds.\n", others, rounds);
-    println!(
-        "| records | different ones | cells, ns: bit by bit, words | ratio | load, ns: bit by bit, words | ratio |"
-    );
-    println!("|---|---|---|---|---|---|");
-    for (group, records) in &groups {
-        let cells = if has_cells(group) { times(Part::Cells, records, rounds)? } else { "- | -".to_string() };
-        let load = times(Part::Load, records, rounds)?;
-        println!("| {} | {} | {} | {} |", group.name, records.len(), cells, load);
-    }
+    time_table(&groups, rounds)?;
     println!();
     instruction_table()
 }
 
-/// Whether reading the cells alone says something: not if there are not 21 bytes.
-fn has_cells(group: &Group) -> bool {
-    group.check != 1
+fn time_table(groups: &[(&Group, Vec<Vec<u8>>)], rounds: usize) -> Result<(), String> {
+    println!(
+        "| records | different ones | cells, ns: bit by bit, words | ratio | load, ns: bit by bit, words | ratio |"
+    );
+    println!("|---|---|---|---|---|---|");
+    for (group, records) in groups {
+        let cells = if group.has_cells() { times(Part::Cells, records, rounds)? } else { NO_CELLS.to_string() };
+        let load = times(Part::Load, records, rounds)?;
+        println!("| {} | {} | {} | {} |", group.name, records.len(), cells, load);
+    }
+    Ok(())
 }
 
 /// Two columns of the first table.
@@ -86,14 +86,13 @@ fn instruction_table() -> Result<(), String> {
     println!("| instructions a record | cells: bit by bit, words | ratio | load: bit by bit, words | ratio |");
     println!("|---|---|---|---|---|");
     for (number, group) in GROUPS.iter().enumerate() {
-        let [bits, words, load_bits, load_words] = instructions::a_record(number)?;
-        let cells = if has_cells(group) { counts(bits, words) } else { "- | -".to_string() };
-        println!("| {} | {} | {} |", group.name, cells, counts(load_bits, load_words));
+        let (cells, load) = instructions::a_record(number, group)?;
+        println!("| {} | {} | {} |", group.name, cells.map_or(NO_CELLS.to_string(), counts), counts(load));
     }
     Ok(())
 }
 
 /// Two columns of the second table.
-fn counts(bits: f64, words: f64) -> String {
+fn counts([bits, words]: [f64; 2]) -> String {
     format!("{:.0}, {:.0} | **{:.1}**", bits, words, bits / words)
 }

@@ -8,19 +8,19 @@ pub fn installed() -> bool {
     asked.is_ok_and(|status| status.success())
 }
 
-/// All instructions of this program when it is given these words, and what it printed then.
-pub fn counted(words: &[&str]) -> Result<(f64, String), String> {
+/// All instructions of this program when it is given these arguments, and what it printed then.
+pub fn counted(arguments: &[&str]) -> Result<(f64, String), String> {
     let program = env::current_exe().map_err(|e| e.to_string())?;
     let run = Command::new("valgrind")
         .args(["--tool=callgrind", "--callgrind-out-file=/dev/null"])
         .arg(program)
-        .args(words)
+        .args(arguments)
         .output()
         .map_err(|e| e.to_string())?;
     let (printed, told) = (String::from_utf8_lossy(&run.stdout), String::from_utf8_lossy(&run.stderr));
     let total = told.lines().find_map(|line| line.split("Collected : ").nth(1)).and_then(|n| n.trim().parse().ok());
     match total {
         Some(total) if run.status.success() => Ok((total, printed.trim().to_string())),
-        _ => Err(format!("callgrind failed on {}:\n{}", words.join(" "), told)),
+        _ => Err(format!("callgrind failed on {}:\n{}", arguments.join(" "), told)),
     }
 }

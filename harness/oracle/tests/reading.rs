@@ -1,8 +1,8 @@
 //! The records that try loading place by place are there, every one that `generate::reading` says.
 
-use calls::record::{Position, LENGTH};
-use calls::table::{finished, record_refusal};
-use oracle::generate::{reading, Random};
+use calls::record::{Position, EMPTY, FREE_CHOICE, LENGTH, O, X};
+use calls::table::{board_state, finished, has_line, record_refusal, Board};
+use oracle::generate::{reading, Damage, Random};
 use std::collections::BTreeSet;
 
 /// The list, with each record's refusal, 0 for none.
@@ -13,6 +13,13 @@ fn list() -> Vec<(Vec<u8>, u32)> {
 
 fn positions(list: &[(Vec<u8>, u32)]) -> impl Iterator<Item = (Position, u32)> + '_ {
     list.iter().filter_map(|(record, refusal)| Some((Position::read(record.as_slice().try_into().ok()?), *refusal)))
+}
+
+#[test]
+fn the_list_has_its_length() {
+    let records = reading::records(&mut Random::new(1));
+    let calls = records.iter().flat_map(|record| reading::calls_of(record));
+    assert_eq!((records.len(), calls.count()), (10_880, 54_400));
 }
 
 /// Refused by each check, and by check 3 with either side to move.
@@ -67,4 +74,52 @@ fn every_cell_has_every_code() {
         }
     }
     assert_eq!((single.len(), three.len()), (4 * 81, 64));
+}
+
+/// Before the 400 records at random stand 50 of each kind of damage, each with what the kind names.
+#[test]
+fn every_damage_is_done() {
+    let list = list();
+    let (before, _) = list.split_at(list.len() - 400);
+    let records: Vec<(Position, u32)> = positions(&before[before.len() - 50 * Damage::ALL.len()..]).collect();
+    for (kind, records) in Damage::ALL.into_iter().zip(records.chunks(50)) {
+        let undone = records.iter().find(|(position, refusal)| !is_done(kind, position, *refusal));
+        assert_eq!((records.len(), undone), (50, None), "{:?}", kind);
+    }
+}
+
+/// The damage is there; where it is simply taken back, the position is accepted.
+fn is_done(kind: Damage, position: &Position, refusal: u32) -> bool {
+    let free = Position { target: FREE_CHOICE, ..*position };
+    match kind {
+        Damage::Code => position.count(3) == 1 && one_cell_from_accepted(position),
+        Damage::Target => (9..=14).contains(&position.target) && is_accepted(&free),
+        Damage::LastBit => position.last_bit == 1 && is_accepted(&Position { last_bit: 0, ..*position }),
+        Damage::Side => refusal == 3 && is_accepted(&Position { side: 1 - position.side, ..*position }),
+        Damage::Cell => refusal == 3 && one_cell_from_accepted(position),
+        Damage::BoardWonTwice => position.cells.iter().any(|board| has_line_of(board, X) && has_line_of(board, O)),
+        Damage::LinesOfBoards => [X, O].iter().any(|code| has_line(&position.cells.map(|b| has_line_of(&b, *code)))),
+        Damage::DoneTarget => {
+            let done = |board: &[u8; 9]| board_state(board) != Board::InPlay;
+            position.cells.get(position.target as usize).is_some_and(done) && is_accepted(&free)
+        }
+    }
+}
+
+fn is_accepted(position: &Position) -> bool {
+    record_refusal(&position.write()).is_none()
+}
+
+/// Whether another code at one cell makes it an accepted position.
+fn one_cell_from_accepted(position: &Position) -> bool {
+    let with = |at: usize, code| {
+        let mut position = *position;
+        position.cells[at / 9][at % 9] = code;
+        position
+    };
+    (0..81).any(|at| [EMPTY, X, O].iter().any(|code| is_accepted(&with(at, *code))))
+}
+
+fn has_line_of(board: &[u8; 9], code: u8) -> bool {
+    has_line(&board.map(|cell| cell == code))
 }

@@ -1,4 +1,4 @@
--- `cells::board_bits` meets its contract: the tests of the ranges. Assumes nothing.
+-- `cells::board_bits` meets its contract: the four cases of a board's place in the words. Assumes nothing.
 use native.Mathlib.Omega.{arith}
 use borrow.Author.Needs.{needs}
 use Rattle.cells.specs.BoardBits.{join-fits, in-first, in-both, in-second, in-third}

@@ -1,6 +1,6 @@
--- `cells::board_cells` meets its contract: a board's 18 bits, and their nine codes. Assumes nothing.
+-- `cells::board_cells` meets its contract: the board's bits, then their codes. Assumes nothing.
 use borrow.Author.Needs.{needs}
-use Rattle.cells.specs.Cells.{board-masks}
+use Rattle.cells.specs.CellLaws.{taken-masks}
 use Rattle.cells.proofs.board_cells.Statement.{statement}
 use Rattle.cells.proofs.board_cells.Tie as tie
 
@@ -11,7 +11,7 @@ codes-of-requires : tie.Need-codes-of-requires
 codes-of-requires c κs = search needs
 
 returns : tie.Need-returns
-returns c = board-masks _ _ _ _ (c .before .before .pre .1) (c .before .board-bits .ensures .0) (c .codes-of .ensures)
+returns c = taken-masks _ _ _ _ (c .before .before .pre .1) (c .before .board-bits .ensures .0) (c .codes-of .ensures)
 
 pub board-cells-spec : {M : Type 1} → statement M
 board-cells-spec = tie.close (tie.spec board-bits-requires codes-of-requires returns)

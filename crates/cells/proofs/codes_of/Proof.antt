@@ -1,4 +1,4 @@
--- `cells::codes_of` meets its contract: three triples side by side. Assumes nothing.
+-- `cells::codes_of` meets its contract: the sum of three entries of the table. Assumes nothing.
 use mathlib.Core.Path.{refl}
 use borrow.Author.Needs.{needs}
 use Rattle.cells.specs.Triples.{three-law}

@@ -6,7 +6,7 @@ use borrow.Author.Needs.{needs}
 use Rattle.rules.specs.Rules.{answers}
 use Rattle.cells.specs.RecordWords.{cellIn}
 use Rattle.cells.specs.Reading.{BoardsRead}
-use Rattle.cells.specs.BoardsRead.{no-boards, board-read}
+use Rattle.cells.specs.MoreBoards.{no-boards, board-read}
 use Rattle.cells.proofs.from_words.Statement.{statement}
 use Rattle.cells.proofs.from_words.Tie as tie
 

@@ -1,4 +1,4 @@
--- `cells::triple` meets its contract: an entry of the table. Assumes nothing.
+-- `cells::triple` meets its contract: the entry that the table has at n. Assumes nothing.
 use mathlib.Core.Path.{_≡_, ap, _∙_}
 use lib.ListN.{getD}
 use borrow.Author.Needs.{needs}

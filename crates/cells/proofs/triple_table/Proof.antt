@@ -1,4 +1,4 @@
--- `cells::triple_table` meets its contract: one computed test over the table's 64 entries. Assumes nothing.
+-- `cells::triple_table` meets its contract: its 64 entries, computed. Assumes nothing.
 use mathlib.Core.Path.{refl}
 use Rattle.cells.specs.Triples.{tripleTable}
 use Rattle.cells.proofs.triple_table.Statement.{statement}

@@ -1,7 +1,7 @@
 -- `load_bench::bench_cells_from_words` meets its contract: the law of the cells taken from the words. Assumes nothing.
 use native.Mathlib.Omega.{arith}
 use borrow.Author.Needs.{needs}
-use Rattle.cells.specs.Cells.{words-read}
+use Rattle.cells.specs.CellLaws.{words-read}
 use Rattle.load_bench.proofs.bench_cells_from_words.Statement.{statement}
 use Rattle.load_bench.proofs.bench_cells_from_words.Tie as tie
 

@@ -36,15 +36,15 @@ cells-requires c κs = search needs
 abbrev read : (c : tie.After-cells) → FieldsRead (c .cells .result) (c .before .before .number-at .result) (c .before .bit-at2 .result)
 read c = fields _ _ _ _ (c .cells .ensures) (c .before .before .number-at .ensures) (c .before .bit-at2 .ensures)
 
-finish-requires : tie.Need-finish-requires
-finish-requires c κs = read c
+load-fields-requires : tie.Need-load-fields-requires
+load-fields-requires c κs = read c
 
 returns-3 : tie.Need-returns-3
 unfolding fields
 returns-3 c =
     let last = c .before .before .before .before in
     let later = refused-later _ (last .before .before .if1 .left) (sym (last .before .bit-at .ensures) ∙ last .if2 .left) in
-    let r = c .finish .ensures (read (c .before)) in
+    let r = c .load-fields .ensures (read (c .before)) in
     (r .0 ∙ later, r .1)
 
 pub load-bit-by-bit-spec : {M : Type 1} → statement M
@@ -59,5 +59,5 @@ load-bit-by-bit-spec =
     number-at-requires
     bit-at-requires-2
     cells-requires
-    finish-requires
+    load-fields-requires
     returns-3)

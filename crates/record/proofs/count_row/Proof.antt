@@ -1,4 +1,4 @@
--- `record::count_row` meets its contract: three masks side by side. Assumes nothing.
+-- `record::count_row` meets its contract: the bits of three masks in one number. Assumes nothing.
 use native.Mathlib.Omega.{arith}
 use borrow.Author.Needs.{needs}
 use Rattle.record.specs.Counted.{first-small, row-ones, row-few}
@@ -28,13 +28,15 @@ wide-requires-2 c κs = search needs
 
 mul-result : tie.Need-mul-result
 mul-result c =
-    let start = c .before .before .before .before in
-    omega (arith, c .wide2 .ensures, start .pre .1 1 (omega arith))
+    let low = c .before .before .before .before .pre .1 in
+    omega (arith, c .wide2 .ensures, low 1 (omega arith), low 2 (omega arith))
 
 add-result : tie.Need-add-result
 add-result c =
     let start = c .before .before .before .before in
-    omega (arith, c .before .before .wide .ensures, c .wide2 .ensures, first-small (start .args .words .now) (start .args .i) (start .pre .1), start .pre .1 1 (omega arith))
+    let low = start .pre .1 in
+    let first = first-small (start .args .words .now) (start .args .i) low in
+    omega (arith, c .before .before .wide .ensures, c .wide2 .ensures, first, low 1 (omega arith), low 2 (omega arith))
 
 add-wide-2 : tie.Need-add-wide-2
 add-wide-2 c = search needs
@@ -50,8 +52,8 @@ wide-requires-3 c κs = search needs
 
 mul-result-2 : tie.Need-mul-result-2
 mul-result-2 c =
-    let start = c .before .before .before .before .before .before in
-    omega (arith, c .wide3 .ensures, start .pre .1 2 (omega arith))
+    let low = c .before .before .before .before .before .before .pre .1 in
+    omega (arith, c .wide3 .ensures, low 1 (omega arith), low 2 (omega arith))
 
 add-result-2 : tie.Need-add-result-2
 add-result-2 c =

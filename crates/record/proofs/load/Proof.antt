@@ -8,7 +8,7 @@ use Rattle.rules.specs.Record.{bitAt, positionOf}
 use Rattle.rules.specs.Roundtrip.{load-whole}
 use Rattle.cells.specs.Reading.{CellsRead}
 use Rattle.cells.specs.WordLaws.{side-in, target-in, last-in}
-use Rattle.cells.specs.Cells.{words-read}
+use Rattle.cells.specs.CellLaws.{words-read}
 use Rattle.record.specs.Loading.{refused-1, refused-2, refused-later, fields, some-fields}
 use Rattle.record.proofs.load.Statement.{statement}
 use Rattle.record.proofs.load.Tie as tie
@@ -60,8 +60,9 @@ words c = c .before .before .before .before .before
 abbrev read : (c : tie.After-from-words) → CellsRead (positionOf (start (words c .before) .args .bytes .now) .cells) (c .from-words .result)
 read c = words-read _ (small (words c .before)) _ (words c .record-words .ensures) _ (c .from-words .ensures)
 
-finish-requires : tie.Need-finish-requires
-finish-requires c κs =
+-- a first bit is below 2, whichever word it is of
+load-fields-requires : tie.Need-load-fields-requires
+load-fields-requires c κs =
     let fits = c .before .struct-known3 .given in
     some-fields _ _ _ _ (load-whole _) (read c) (omega (arith, fits .0 .fits, fits .1 .0 .fits))
 
@@ -73,7 +74,7 @@ returns-3 c =
     let e = words .record-words .ensures in
     let target = ap (λ w. w .first / 2 ^ 59 % 16) e ∙ target-in _ small in
     let side = ap (λ w. w .first / 2 ^ 63) e ∙ side-in _ small in
-    let r = c .finish .ensures (fields _ _ _ _ (read (c .before)) target side) in
+    let r = c .load-fields .ensures (fields _ _ _ _ (read (c .before)) target side) in
     (r .0 ∙ refused-later _ (words .before .if1 .left) (sym (last words) ∙ c .before .before .before .before .if2 .left), r .1)
 
 pub load-spec : {M : Type 1} → statement M
@@ -88,5 +89,5 @@ load-spec =
     cast-target
     cast-side
     from-words-requires
-    finish-requires
+    load-fields-requires
     returns-3)

@@ -3,7 +3,7 @@ use Prim.Native.Nat.{_≤_, _-_}
 use mathlib.Core.Path.{_≡_}
 use native.Mathlib.Omega.{arith}
 use Rattle.record.specs.Reading.{Coded, Shows}
-use Rattle.record.specs.Added.{no-boards, board-coded}
+use Rattle.record.specs.Added.{nothing-shown, board-coded}
 use Rattle.record.proofs.show.Statement.{statement}
 use Rattle.record.proofs.show.Tie as tie
 
@@ -14,7 +14,7 @@ abbrev μ-loop : tie.MeasureT-loop
 μ-loop words table shown₀ b₀ shown b = 9 - b
 
 loop-holds : tie.Need-loop-holds Inv-loop μ-loop
-loop-holds c = (omega arith, λ g. no-boards (g .cells))
+loop-holds c = (omega arith, λ g. nothing-shown (g .cells))
 
 mul-t8 : tie.Need-mul-t8 Inv-loop μ-loop
 mul-t8 c = omega arith

@@ -1,5 +1,5 @@
 //! Records that checks 1 to 6 refuse, each made by one or two kinds of damage to an accepted one.
-//! Which check answers is the table's to say.
+//! Which check refuses them is decided in `calls::table`.
 
 use super::positions::{accepted, change, place};
 use super::random::Random;

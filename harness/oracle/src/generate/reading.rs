@@ -1,5 +1,5 @@
 //! Records that try loading place by place: every bit, every code at every cell, every target and length, each kind
-//! of damage. Which of them are refused, and by which check, is the table's to say.
+//! of damage. Which of them are refused, and by which check, is decided in `calls::table`.
 
 use super::damaged::{any_bytes, damage, Damage};
 use super::positions::{accepted, reached};
@@ -28,22 +28,17 @@ const OF_A_CODE: usize = 4;
 const OF_THREE_CODES: usize = 4;
 const OF_A_DAMAGE: usize = 50;
 const AT_RANDOM: usize = 400;
+/// After so many positions that a kind of damage leaves as they were, it can't be done to any.
+const IN_VAIN: usize = 10_000;
 
 /// All of them, the same for the same numbers.
 pub fn records(random: &mut Random) -> Vec<Vec<u8>> {
     let played = PLIES.map(|plies| Position::read(&load::record(&reached(random, plies))));
     let others = [(); OTHERS].map(|()| accepted(random));
     let mut records: Vec<Vec<u8>> = played.iter().chain(&others).flat_map(changed).collect();
-    for at in 0..CELLS {
-        (0..=NO_CODE).for_each(|code| records.extend((0..OF_A_CODE).map(|_| with_codes(random, at, &[code]))));
-    }
-    for codes in 0..64 {
-        let three = [codes / 16, codes / 4 % 4, codes % 4];
-        records.extend((0..OF_THREE_CODES).map(|_| with_codes(random, PARTED - 1, &three)));
-    }
-    for kind in Damage::ALL {
-        records.extend((0..OF_A_DAMAGE).map(|_| damaged_by(random, kind)));
-    }
+    records.extend((0..CELLS).flat_map(|at| with_each_code(random, at)));
+    records.extend((0..64).flat_map(|codes| around_the_parted_cell(random, codes)));
+    records.extend(Damage::ALL.into_iter().flat_map(|kind| of_a_damage(random, kind)));
     records.extend((0..AT_RANDOM).map(|_| any_bytes(random).to_vec()));
     records
 }
@@ -86,6 +81,21 @@ fn changed(position: &Position) -> Vec<Vec<u8>> {
     records
 }
 
+/// Records with each code at cell `at`.
+fn with_each_code(random: &mut Random, at: usize) -> Vec<Vec<u8>> {
+    (0..=NO_CODE).flat_map(|code| [(); OF_A_CODE].map(|()| with_codes(random, at, &[code]))).collect()
+}
+
+/// Records with the three codes of this number, two bits each, before, at and after the parted cell.
+fn around_the_parted_cell(random: &mut Random, codes: u8) -> [Vec<u8>; OF_THREE_CODES] {
+    let three = [codes / 16, codes / 4 % 4, codes % 4];
+    [(); OF_THREE_CODES].map(|()| with_codes(random, PARTED - 1, &three))
+}
+
+fn of_a_damage(random: &mut Random, kind: Damage) -> [Vec<u8>; OF_A_DAMAGE] {
+    [(); OF_A_DAMAGE].map(|()| damaged_by(random, kind))
+}
+
 /// An accepted position with these codes from cell `at` on; where one is no code, it is put there afterwards.
 fn with_codes(random: &mut Random, at: usize, codes: &[u8]) -> Vec<u8> {
     loop {
@@ -98,9 +108,15 @@ fn with_codes(random: &mut Random, at: usize, codes: &[u8]) -> Vec<u8> {
     }
 }
 
-/// The record of an accepted position after one kind of damage.
+/// The record of an accepted position after one kind of damage: of the first position drawn that it changes.
 fn damaged_by(random: &mut Random, kind: Damage) -> Vec<u8> {
-    let mut position = accepted(random);
-    damage(random, &mut position, kind);
-    position.write().to_vec()
+    for _ in 0..IN_VAIN {
+        let whole = accepted(random);
+        let mut position = whole;
+        damage(random, &mut position, kind);
+        if position != whole {
+            return position.write().to_vec();
+        }
+    }
+    panic!("{:?} has changed none of {} positions", kind, IN_VAIN)
 }

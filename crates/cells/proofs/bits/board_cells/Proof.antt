@@ -5,7 +5,7 @@ use Rattle.rules.specs.Rules.{answers}
 use Rattle.rules.specs.Record.{bitAt}
 use Rattle.rules.specs.Bits.{number-lt}
 use Rattle.rules.specs.Roundtrip.{load-bits}
-use Rattle.cells.specs.Cells.{cells-done, cellOf}
+use Rattle.cells.specs.CellLaws.{cells-done, cellOf}
 use Rattle.cells.specs.Reading.{Masks}
 use Rattle.cells.specs.Marks.{no-codes, putting, put-next}
 use Rattle.cells.proofs.bits.board_cells.Statement.{statement}

@@ -4,7 +4,7 @@ use mathlib.Core.Path.{_≡_, refl}
 use native.Mathlib.Omega.{arith}
 use Rattle.rules.specs.Record.{positionOf}
 use Rattle.cells.specs.Reading.{BoardsRead}
-use Rattle.cells.specs.BoardsRead.{no-boards, board-read}
+use Rattle.cells.specs.MoreBoards.{no-boards, board-read}
 use Rattle.cells.proofs.bits.cells.Statement.{statement}
 use Rattle.cells.proofs.bits.cells.Tie as tie
 

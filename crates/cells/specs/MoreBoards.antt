@@ -10,7 +10,7 @@ use borrow.Author.Tests.{ne-eqb, lt-ltb, ltb-true}
 use lib.Bits.{bitOr, or-zero-l, or-add-and, and-le-r}
 use lib.Dec.{eqb, ltb, eqb·suc-zero}
 use lib.ListN.{getD, length, set, take, drop, length-set}
-use lib.Seq.{take-add, getD-set-same, getD-set-other}
+use lib.Seq.{take-add, take-all, getD-set-same, getD-set-other}
 use Rattle.rules.specs.Rules.{Player, mark, all, board}
 use Rattle.rules.specs.Rules.Player.{X, O}
 use Rattle.rules.specs.Record.{sideBit}
@@ -74,3 +74,7 @@ module _ (cs ws : List ℕ) (b rest : ℕ) (m : Codes) (h : b < 9) (g : BoardsRe
 
   pub board-read : BoardsRead cs (b + 1) stored (bitOr rest (m .rest))
   board-read = record { room = simp length-set (g .room); masks = λ p k l. masked p k l (ℕ-discrete k b); coded = coded }
+
+-- All nine boards: no code is 3 exactly if rest is 0.
+pub cells-coded : (cs ws : List ℕ) (rest : ℕ) → length cs ≡ 81 → BoardsRead cs 9 ws rest → all (λ c. ltb c 3) cs ≡ eqb rest 0
+cells-coded cs ws rest n g = ap (all (λ c. ltb c 3)) (sym (take-all 81 cs (omega arith))) ∙ g .coded

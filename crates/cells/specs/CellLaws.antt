@@ -18,7 +18,7 @@ use Rattle.cells.specs.WordLaws.{cells-from-words}
 use Rattle.cells.specs.BoardBits.{codeIn}
 
 -- Board b of 81 cells that a function gives.
-pub board-of : (f : ℕ → ℕ) (g : ℕ → ℕ) (b : ℕ) → b < 9 → ((c : ℕ) → c < 9 → g c ≡ f (b * 9 + c)) → answers g 0 9 ≡ board (answers f 0 81) b
+board-of : (f : ℕ → ℕ) (g : ℕ → ℕ) (b : ℕ) → b < 9 → ((c : ℕ) → c < 9 → g c ≡ f (b * 9 + c)) → answers g 0 9 ≡ board (answers f 0 81) b
 unfolding board
 board-of f g b h same =
     answers-are g (board (answers f 0 81) b) 9 0 (length-board (answers f 0 81) b (length-answers f 0 81) h)
@@ -36,12 +36,12 @@ cells-done bs b c m h e = rw (e, board-of (λ i. number (bitAt bs) (5 + 2 * i) 2
 
 -- ---- from the words
 
-pub board-masks : (w : RecordWords) (b v : ℕ) (m : Codes) → b < 9 → ((c : ℕ) → c < 9 → codeIn v c ≡ cellIn w (b * 9 + c)) → Masks (answers (codeIn v) 0 9) m
+pub taken-masks : (w : RecordWords) (b v : ℕ) (m : Codes) → b < 9 → ((c : ℕ) → c < 9 → codeIn v c ≡ cellIn w (b * 9 + c)) → Masks (answers (codeIn v) 0 9) m
     → Masks (board (answers (cellIn w) 0 81) b) m
-board-masks w b v m h same = rw (board-of (cellIn w) (codeIn v) b h same) (λ k. k)
+taken-masks w b v m h same = rw (board-of (cellIn w) (codeIn v) b h same) (λ k. k)
 
 -- The cells taken from the words are those of the record's position.
-pub words-position : (bs : List ℕ) → ((k : ℕ) → getD bs k 0 < 256) → answers (cellIn (wordsOf bs)) 0 81 ≡ positionOf bs .cells
+words-position : (bs : List ℕ) → ((k : ℕ) → getD bs k 0 < 256) → answers (cellIn (wordsOf bs)) 0 81 ≡ positionOf bs .cells
 unfolding positionOf
 words-position bs small =
     answers-are (cellIn (wordsOf bs)) (answers (λ i. number (bitAt bs) (5 + 2 * i) 2) 0 81) 81 0 (length-answers (λ i. number (bitAt bs) (5 + 2 * i) 2) 0 81)

@@ -1,4 +1,4 @@
--- `record::finish` meets its contract: check 2 of the cells, and then the checks of the position; its words hold it. Assumes nothing.
+-- `record::load_fields` meets its contract: check 2 of the cells, and then the checks of the position; its words hold it. Assumes nothing.
 use mathlib.Core.Path.{refl, sym, _∙_}
 use native.Mathlib.Omega.{arith}
 use borrow.Author.Needs.{needs}
@@ -7,8 +7,8 @@ use Rattle.rules.specs.Rules.Player.{X, O}
 use Rattle.record.specs.declared.Boards.{Boards}
 use Rattle.record.specs.Reading.{Coded, Counting, Checking, FieldsRead}
 use Rattle.record.specs.Loading.{refused-code, coded, checking, holds}
-use Rattle.record.proofs.finish.Statement.{statement}
-use Rattle.record.proofs.finish.Tie as tie
+use Rattle.record.proofs.load_fields.Statement.{statement}
+use Rattle.record.proofs.load_fields.Tie as tie
 
 -- what came in, where no code is 3
 abbrev start : tie.Else1 → tie.Start
@@ -95,8 +95,8 @@ returns-2 c g =
     let e = c .check .ensures (checked boards g) in
     (e, λ z. holds _ _ _ g _ (shows .states) (sym e ∙ z))
 
-pub finish-spec : {M : Type 1} → statement M
-finish-spec =
+pub load-fields-spec : {M : Type 1} → statement M
+load-fields-spec =
     tie.close
     (tie.spec
     refused-requires
