@@ -27,7 +27,7 @@ pub record WordsCases : Type 0 where
   pub none-29 : threeCells (twoBytes 7 0x0000) 28 ≡ 0 ∷ 0 ∷ 0 ∷ []
   pub three-29 : threeCells (twoBytes 7 0x0180) 28 ≡ 0 ∷ 3 ∷ 0 ∷ []
   pub beside-29 : threeCells (twoBytes 7 0x0660) 28 ≡ 3 ∷ 0 ∷ 3 ∷ []
-  -- bytes 13 and 14, cells 52, 53 and 54: the last two taken from the second word, and the first from the third
+  -- bytes 13 and 14, cells 52, 53 and 54: the last two that are taken from the second word, and the first that is from the third
   pub last-second : threeCells (twoBytes 13 0x0180) 52 ≡ 0 ∷ 3 ∷ 0 ∷ []
   pub first-third : threeCells (twoBytes 13 0x0060) 52 ≡ 0 ∷ 0 ∷ 3 ∷ []
   -- the ends: cell 0 after the target, cell 80 before the last bit

@@ -1,4 +1,4 @@
--- One more board read, however its masks came about: its two words stored, and whether it has a code 3. Rests on Reading.
+-- One more board read, however its masks came about: its two words stored, and whether it has a code 3. Rests on Reading and the game's masks.
 use mathlib.Core.Path.{_≡_, refl, ap, ap₂, sym, _∙_}
 use mathlib.Core.Bool.{Bool, true, _&&_, and-assoc}
 use mathlib.Core.List.{List, [], _∷_, _++_}

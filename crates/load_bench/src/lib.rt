@@ -1,8 +1,8 @@
 // Records read in both ways, for the bench that times them. No crate of the product stands on this one.
 
 ghost use mathlib.Core.Path.{_≡_};
-ghost use Prim.Native.Nat.{_≤_};
-ghost use lib.ListN.{length};
+ghost use Prim.Native.Nat.{_<_, _≤_};
+ghost use lib.ListN.{length, replicate};
 ghost use Rattle.rules.specs.Record.{positionOf, refusal};
 ghost use Rattle.game.specs.Words.{Holds};
 ghost use Rattle.cells.specs.Reading.{BoardsRead};
@@ -21,8 +21,10 @@ pub struct BenchCells {
     pub rest: u16,
 }
 
-// For fewer than 21 bytes, of which nothing is promised.
-fn no_cells() -> BenchCells {
+// For fewer than 21 bytes.
+fn no_cells() -> BenchCells
+    ensures { λ r. ⌜ (r .words ≡ replicate 23 0) × (r .rest ≡ 0) ⌝ }
+{
     let words = [0u16; 23];
     BenchCells { words, rest: 0 }
 }
@@ -30,7 +32,8 @@ fn no_cells() -> BenchCells {
 // The cells, from the record's three words.
 #[no_mangle]
 pub extern "C" fn bench_cells_from_words(bytes: &[u8]) -> BenchCells
-    ensures { λ r. ⌜ (21 ≤ length (now (bytes .entry)) → BoardsRead (positionOf (now (bytes .entry)) .cells) 9 (r .words) (r .rest)) ⌝ }
+    ensures { λ r. ⌜ (21 ≤ length (now (bytes .entry)) → BoardsRead (positionOf (now (bytes .entry)) .cells) 9 (r .words) (r .rest))
+        × (length (now (bytes .entry)) < 21 → (r .words ≡ replicate 23 0) × (r .rest ≡ 0)) ⌝ }
 {
     if bytes.len() < RECORD_LENGTH {
         return no_cells();
@@ -46,7 +49,8 @@ pub extern "C" fn bench_cells_from_words(bytes: &[u8]) -> BenchCells
 // The same cells, bit by bit.
 #[no_mangle]
 pub extern "C" fn bench_cells_bit_by_bit(bytes: &[u8]) -> BenchCells
-    ensures { λ r. ⌜ (21 ≤ length (now (bytes .entry)) → BoardsRead (positionOf (now (bytes .entry)) .cells) 9 (r .words) (r .rest)) ⌝ }
+    ensures { λ r. ⌜ (21 ≤ length (now (bytes .entry)) → BoardsRead (positionOf (now (bytes .entry)) .cells) 9 (r .words) (r .rest))
+        × (length (now (bytes .entry)) < 21 → (r .words ≡ replicate 23 0) × (r .rest ≡ 0)) ⌝ }
 {
     if bytes.len() < RECORD_LENGTH {
         return no_cells();

@@ -5,10 +5,9 @@ use Prim.Native.Nat.{ℕ, _+_, _*_, _<_}
 use native.Mathlib.Nat.{zero-add}
 use native.Mathlib.Omega.{arith}
 use borrow.Author.Tests.{eq-eqb, ne-eqb}
-use lib.Dec.{eqb, ltb}
 use lib.ListN.{getD, length, take, drop, List·getD-append}
-use lib.Seq.{sets, sets-eq, length-sets, length-take-le, take-all, getD-take, getD-append-add}
-use Rattle.rules.specs.Rules.{Player, mark, all, count, board, boardStates}
+use lib.Seq.{sets, sets-eq, length-sets, length-take-le, getD-take, getD-append-add}
+use Rattle.rules.specs.Rules.{Player, mark, count, board, boardStates}
 use Rattle.rules.specs.Rules.Player.{X, O}
 use Rattle.rules.specs.Record.{bitAt, number, sideBit, playerOf, positionOf, positionRefusal, refusal}
 use Rattle.rules.specs.Refusals.{firstRefusal}

@@ -1,4 +1,4 @@
--- Laws of nine codes kept as masks: their lines and their state; and of boards one after the other. Rests on Reading and the game's masks and lines.
+-- Laws of nine codes kept as masks: their lines and their state; and of lists put together. Rests on Reading and the game's masks and lines.
 use mathlib.Core.Path.{_≡_, refl, ap, sym}
 use mathlib.Core.Bool.{Bool, true, false, cond, not, _||_, or-false, or-assoc}
 use mathlib.Core.List.{List, [], _∷_, _++_}

@@ -153,7 +153,7 @@ fn of_side(codes: Codes, side: u8) -> u16
     if side == 0 { codes.x } else { codes.o }
 }
 
-// What checks 3 to 6 look at: the boards' states, the cells of each side, and whether a board has lines of both sides.
+// What checks 3 to 6 look at: the boards' states, how many cells each side has, and whether a board has lines of both sides.
 struct Boards {
     states: Codes,
     xs: u32,

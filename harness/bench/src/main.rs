@@ -14,6 +14,7 @@ mod sides;
 mod timing;
 
 use measure::callgrind;
+use measure::program::Program;
 use searches::{Search, COUNTED, POOL_WORDS, TIMED};
 use std::process::ExitCode;
 use timing::Outcome;
@@ -21,29 +22,8 @@ use timing::Outcome;
 const ROUNDS: usize = 5;
 
 fn main() -> ExitCode {
-    let arguments: Vec<String> = std::env::args().skip(1).collect();
-    let words: Vec<&str> = arguments.iter().map(String::as_str).collect();
-    let done = match words.as_slice() {
-        ["once", side, name] => instructions::once(side, name).ok_or("no such side or search".to_string()),
-        [] => tables(ROUNDS),
-        [rounds] => match rounds.parse() {
-            Ok(rounds) if rounds > 0 => tables(rounds),
-            _ => return usage(),
-        },
-        _ => return usage(),
-    };
-    match done {
-        Ok(()) => ExitCode::SUCCESS,
-        Err(message) => {
-            eprintln!("bench: {}", message);
-            ExitCode::FAILURE
-        }
-    }
-}
-
-fn usage() -> ExitCode {
-    eprintln!("usage: bench [ROUNDS] | bench once original|ours|neither E|E-large|M1|M2|M4");
-    ExitCode::FAILURE
+    let choices = "original|ours|neither E|E-large|M1|M2|M4".to_string();
+    Program { name: "bench", rounds: ROUNDS, choices, tables, once: instructions::once }.run()
 }
 
 fn tables(rounds: usize) -> Result<(), String> {
@@ -73,15 +53,9 @@ fn row(search: &Search, o: &Outcome) -> String {
 }
 
 fn instruction_table() -> Result<(), String> {
-    if !callgrind::installed() {
-        println!("Instructions are not counted: valgrind is not installed.");
-        return Ok(());
-    }
-    println!("| instructions an expansion | Rust | ours |");
-    println!("|---|---|---|");
-    for search in &COUNTED {
+    let row = |search: &Search| {
         let [theirs, ours] = instructions::an_expansion(search)?;
-        println!("| {}, {} expansions | {:.0} | {:.0} |", search.name, ours.expanded, theirs.each, ours.each);
-    }
-    Ok(())
+        Ok(format!("| {}, {} expansions | {:.0} | {:.0} |", search.name, ours.expanded, theirs.each, ours.each))
+    };
+    callgrind::table("| instructions an expansion | Rust | ours |\n|---|---|---|", COUNTED.iter().map(row))
 }

@@ -7,7 +7,7 @@ use std::mem::size_of;
 /// Words of a position.
 pub const WORDS: usize = 23;
 
-/// X's nine masks of cells, O's nine, and zeros.
+/// X's nine masks of cells, O's nine, and five words that are not promised; they are 0.
 #[repr(C)]
 #[derive(Clone, Copy, Debug)]
 pub struct BenchCells {

@@ -17,6 +17,7 @@ mod timing;
 use exports::Part;
 use groups::{Group, GROUPS};
 use measure::callgrind;
+use measure::program::Program;
 use std::process::ExitCode;
 
 const ROUNDS: usize = 25;
@@ -24,29 +25,8 @@ const ROUNDS: usize = 25;
 const NO_CELLS: &str = "- | -";
 
 fn main() -> ExitCode {
-    let given: Vec<String> = std::env::args().skip(1).collect();
-    let arguments: Vec<&str> = given.iter().map(String::as_str).collect();
-    let done = match arguments.as_slice() {
-        ["once", what, group] => instructions::once(what, group).ok_or("no such run or group".to_string()),
-        [] => tables(ROUNDS),
-        [rounds] => match rounds.parse() {
-            Ok(rounds) if rounds > 0 => tables(rounds),
-            _ => return usage(),
-        },
-        _ => return usage(),
-    };
-    match done {
-        Ok(()) => ExitCode::SUCCESS,
-        Err(message) => {
-            eprintln!("loads: {}", message);
-            ExitCode::FAILURE
-        }
-    }
-}
-
-fn usage() -> ExitCode {
-    eprintln!("usage: loads [ROUNDS] | loads once {} GROUP, a number below {}", instructions::choices(), GROUPS.len());
-    ExitCode::FAILURE
+    let choices = format!("{} GROUP, a number below {}", instructions::choices(), GROUPS.len());
+    Program { name: "loads", rounds: ROUNDS, choices, tables, once: instructions::once }.run()
 }
 
 fn tables(rounds: usize) -> Result<(), String> {
@@ -79,17 +59,12 @@ fn times(part: Part, records: &[Vec<u8>], rounds: usize) -> Result<String, Strin
 }
 
 fn instruction_table() -> Result<(), String> {
-    if !callgrind::installed() {
-        println!("Instructions are not counted: valgrind is not installed.");
-        return Ok(());
-    }
-    println!("| instructions a record | cells: bit by bit, words | ratio | load: bit by bit, words | ratio |");
-    println!("|---|---|---|---|---|");
-    for (number, group) in GROUPS.iter().enumerate() {
+    let row = |(number, group): (usize, &Group)| {
         let (cells, load) = instructions::a_record(number, group)?;
-        println!("| {} | {} | {} |", group.name, cells.map_or(NO_CELLS.to_string(), counts), counts(load));
-    }
-    Ok(())
+        Ok(format!("| {} | {} | {} |", group.name, cells.map_or(NO_CELLS.to_string(), counts), counts(load)))
+    };
+    let head = "| instructions a record | cells: bit by bit, words | ratio | load: bit by bit, words | ratio |\n|---|---|---|---|---|";
+    callgrind::table(head, GROUPS.iter().enumerate().map(row))
 }
 
 /// Two columns of the second table.

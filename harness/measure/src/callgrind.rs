@@ -3,7 +3,17 @@
 use std::env;
 use std::process::{Command, Stdio};
 
-pub fn installed() -> bool {
+/// Prints the rows of a table of instructions, or that there is none since valgrind is not installed.
+pub fn table(head: &str, rows: impl IntoIterator<Item = Result<String, String>>) -> Result<(), String> {
+    if !installed() {
+        println!("Instructions are not counted: valgrind is not installed.");
+        return Ok(());
+    }
+    println!("{}", head);
+    rows.into_iter().try_for_each(|row| row.map(|row| println!("{}", row)))
+}
+
+fn installed() -> bool {
     let asked = Command::new("valgrind").arg("--version").stdout(Stdio::null()).stderr(Stdio::null()).status();
     asked.is_ok_and(|status| status.success())
 }

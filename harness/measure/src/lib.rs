@@ -1,7 +1,8 @@
-//! What the benchmarks have in common: rounds in which every side is run once, the spread of their numbers, and
-//! instructions counted by callgrind.
+//! What the benchmarks have in common: their command line, rounds in which every side is run once, the spread of
+//! their numbers, and instructions counted by callgrind.
 
 pub mod callgrind;
+pub mod program;
 
 use std::fmt;
 

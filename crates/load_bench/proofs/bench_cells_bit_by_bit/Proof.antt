@@ -8,13 +8,13 @@ no-cells-requires : tie.Need-no-cells-requires
 no-cells-requires c κs = search needs
 
 returns : tie.Need-returns
-returns c h = absurd (omega (arith, c .before .if1 .taken))
+returns c = (λ h. absurd (omega (arith, c .before .if1 .taken)), λ h. c .no-cells .ensures)
 
 cells-requires : tie.Need-cells-requires
 cells-requires c κs = search needs
 
 returns-2 : tie.Need-returns-2
-returns-2 c h = c .before .cells .ensures
+returns-2 c = (λ h. c .before .cells .ensures, λ h. absurd (omega (arith, c .before .before .if1 .left)))
 
 pub bench-cells-bit-by-bit-spec : {M : Type 1} → statement M
 bench-cells-bit-by-bit-spec = tie.close (tie.spec no-cells-requires returns cells-requires returns-2)

@@ -9,7 +9,7 @@ no-cells-requires : tie.Need-no-cells-requires
 no-cells-requires c κs = search needs
 
 returns : tie.Need-returns
-returns c h = absurd (omega (arith, c .before .if1 .taken))
+returns c = (λ h. absurd (omega (arith, c .before .if1 .taken)), λ h. c .no-cells .ensures)
 
 record-words-requires : tie.Need-record-words-requires
 record-words-requires c κs = search needs
@@ -18,9 +18,11 @@ from-words-requires : tie.Need-from-words-requires
 from-words-requires c κs = search needs
 
 returns-2 : tie.Need-returns-2
-returns-2 c h =
-    let words = c .before .before in
-    words-read _ (λ k. words .before .before .shared-slice-known .given k .fits) _ (words .record-words .ensures) _ (c .before .from-words .ensures)
+returns-2 c =
+    let words = c .before .before in (
+      λ h. words-read _ (λ k. words .before .before .shared-slice-known .given k .fits) _ (words .record-words .ensures) _ (c .before .from-words .ensures),
+      λ h. absurd (omega (arith, words .before .if1 .left)),
+    )
 
 pub bench-cells-from-words-spec : {M : Type 1} → statement M
 bench-cells-from-words-spec = tie.close (tie.spec no-cells-requires returns record-words-requires from-words-requires returns-2)

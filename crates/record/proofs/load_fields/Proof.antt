@@ -52,7 +52,7 @@ count-cells-requires-2 c κs =
     let passed = c .before .before .before .before .before .before .before .before .before in
     counting-o passed (start passed .pre)
 
--- the way back to the test of the cells, and what was made since
+-- where no cell had code 3, and what was made since
 abbrev passed : tie.After-count-cells2 → tie.Else1
 passed c = c .before .before .before .before .before .before .before .before .before .before
 

@@ -18,7 +18,7 @@ const LONGEST: usize = 24;
 /// Bits of a record.
 const BITS: usize = 8 * LENGTH;
 const CELLS: usize = 81;
-/// A cell of this code is refused.
+/// A record with a cell of this code is refused.
 const NO_CODE: u8 = 3;
 /// The cell whose bits are in two words, if a record is read in words of eight bytes from its start on.
 const PARTED: usize = 29;
