@@ -2,18 +2,20 @@
  * libultimattt: adjudication of Ultimate Tic Tac Toe by proof-number search. For C99 and C++ on x86-64 with the System
  * V calling convention; the archive needs nothing but a C library.
  *
- * Buffers. A buffer is a pointer and a length: bytes for records, moves and outputs, 32-bit words for a pool. All of
- * them are the caller's: the library allocates nothing, frees nothing and keeps no pointer after a call. A buffer that
- * is written (output, pool) may not overlap another buffer of the same call; record and moves are only read, and two
- * lists of moves may be the same memory. What an output or a pool held before decides nothing: neither need be cleared.
- * A pool is aligned as uint32_t is.
+ * Buffers. A buffer is a pointer and a length: bytes for records, moves, outputs and books, 32-bit words for a pool.
+ * All of them are the caller's: the library allocates nothing, frees nothing and keeps no pointer after a call. One
+ * that is written (output, pool, the book of an add) may not overlap another buffer of the same call; record and moves
+ * are only read, and two lists of moves may be the same memory. What an output or a pool held before decides nothing:
+ * neither need be cleared. A pool is aligned as uint32_t is.
  *
  * Length 0. The pointer is not followed and may be null. A record of length 0 is refused with 1, an output with 7, a
- * pool with 8; no moves is a list like any other. A null pointer with another length is the caller's error.
+ * pool with 8; no moves is a list like any other, and a book of no bytes is one of no entries. A null pointer with
+ * another length is the caller's error.
  *
  * Answers. Read code first. It is 0 (UTTT_OK), or the number of the first check that failed, the lowest of those that
- * do. With a refusal no byte of any buffer is written and every other field but index is 0, so that verdict and cause
- * then mean nothing. index is the place, from 0, of the bad move with codes 11 to 15, and 0 elsewhere.
+ * do. With a refusal no byte of any buffer is written and every other field is 0 but two: index, and the count of an
+ * add, which is then the one that came in. So verdict and cause mean nothing with a refusal. index is the place, from
+ * 0, of the bad move with codes 11 to 15, and 0 elsewhere.
  *
  * uttt_agreed_opening returns a length and no struct: its code goes to the uint32_t that the caller lends as number.
  * That is no buffer but the call's answer: it is written always, with a refusal too, and never read. The pointer may
@@ -22,12 +24,13 @@
  * Threads. The library has no variables: a call reads and writes what it is lent and its own stack alone. Threads may
  * call at once if nothing that one of them writes is used by another.
  *
- * Time and stack. No call can be interrupted; the budget bounds a search, and the referee takes small endings only.
- * Where it was measured, each call used less than 12 KiB of stack, some 2 KiB of which the dynamic linker took to look
- * memset up at the first search; pool and budget make no difference to that.
+ * Time and stack. No call can be interrupted; the budget bounds a search, the referee takes small endings only, and a
+ * lookup or an add goes through the used entries of its book one after the other. Where it was measured, each call used
+ * less than 12 KiB of stack, some 2 KiB of which the dynamic linker took to look memset up at the first search; pool
+ * and budget make no difference to that.
  *
- * Proofs. docs/PROMISES.md says what is proved of each call, for every record, move list, pool and setting. Of a C
- * caller the proofs assume that every pointer is valid for its length (number for one uint32_t) and aligned, and that
+ * Proofs. docs/PROMISES.md says what is proved of each call, for every record, move list, pool, book and setting. Of a
+ * C caller the proofs assume that every pointer is valid for its length (number for one uint32_t) and aligned, and that
  * nothing that is written overlaps anything else of the call. What stands above about threads, time and stack was
  * measured or read off the archive, not proved.
  */
@@ -70,7 +73,9 @@ enum uttt_code {
     UTTT_WON_BOARD = 13,        /* a move on a won or drawn board */
     UTTT_WRONG_BOARD = 14,      /* a move on another board than the target */
     UTTT_NOT_EMPTY = 15,        /* a move on a cell that is taken */
-    UTTT_TOO_MANY_EMPTY = 16    /* referee: over nine empty cells in boards in play */
+    UTTT_TOO_MANY_EMPTY = 16,   /* referee: over nine empty cells in boards in play */
+    UTTT_BOOK_SIZE = 17,        /* the book's length is no multiple of 22, or the count is above its entries */
+    UTTT_BOOK_FULL = 18         /* add: every entry of the book is used, and none holds the pair */
 };
 
 /*
@@ -84,9 +89,10 @@ enum uttt_rule {
     UTTT_DRAW_TRUE = 2
 };
 
-/* verdict of a search, value of the referee. */
+/* verdict of a search, of a lookup and of an add, value of the referee. */
 enum uttt_verdict {
     UTTT_UNKNOWN = 0,
+    UTTT_NOT_HELD = 0, /* the 0 of a lookup */
     UTTT_TRUE = 1,
     UTTT_FALSE = 2
 };
@@ -115,7 +121,7 @@ enum uttt_cause {
 /*
  * A pool is words of 32 bits, five a node, so 20 bytes: 3,276 nodes are 65,520 bytes; the most, 16,777,216 nodes, are
  * 335,544,320 bytes (320 MiB). Its length is given in words. Up to four words past the last whole node are left alone;
- * after a call that was not refused the others hold junk.
+ * after a call that searched the others hold junk.
  */
 #define UTTT_NODE_WORDS 5
 #define UTTT_POOL_MOST 16777216
@@ -123,6 +129,18 @@ enum uttt_cause {
 /* Ranges: budget 0 to the most; interval 1 to the most; limit any number, UINT64_MAX for none. */
 #define UTTT_BUDGET_MOST UINT64_C(1000000000000)
 #define UTTT_INTERVAL_MOST 1000000
+
+/*
+ * A book keeps verdicts. It is entries of 22 bytes and a count: so many of them, from the front on, are used. The
+ * caller keeps the count. Entries past it are never read, so whatever the bytes are, with count 0 the book is empty. An
+ * entry is a record's 21 bytes and one byte more, bits most significant first: two of rule, two of verdict (1 True, 2
+ * False), four that are written as zeros and not looked at.
+ *
+ * A record and a rule are a pair. It is held if a used entry has both, and verdict 1 or 2; the first such entry counts.
+ * In a book that was empty and that adds alone have written, a verdict is the position's value under the rule. Whether
+ * one from elsewhere is true is not checked.
+ */
+#define UTTT_ENTRY_BYTES 22
 
 /* A proof or disproof number from here upward stands for infinity. */
 #define UTTT_INFINITY UINT32_C(2147483648)
@@ -168,6 +186,19 @@ struct uttt_full_answer {
     uint32_t verdict;          /* enum uttt_full */
     struct uttt_result first;  /* under rule 1 */
     struct uttt_result second; /* under rule 2 */
+};
+
+struct uttt_lookup_answer {
+    uint32_t code;
+    uint64_t index;   /* 0 */
+    uint32_t verdict; /* UTTT_TRUE, UTTT_FALSE or UTTT_NOT_HELD; 0 with a refusal too */
+};
+
+struct uttt_add_answer {
+    uint32_t code;
+    uint64_t index;   /* 0 */
+    uint32_t verdict; /* UTTT_TRUE, UTTT_FALSE or UTTT_UNKNOWN; 0 with a refusal too */
+    uint64_t count;   /* used entries after the call: the count that came in, or one more */
 };
 
 /*
@@ -216,6 +247,24 @@ struct uttt_search_answer uttt_search(const uint8_t *record, size_t record_lengt
 struct uttt_full_answer uttt_full_verdict(const uint8_t *record, size_t record_length,
                                           uint32_t *pool, size_t pool_words,
                                           uint64_t limit, uint64_t budget, uint64_t interval);
+
+/* Gives the verdict that the book holds for the record and the rule, 0 to 2. Nothing is searched, nothing written. */
+struct uttt_lookup_answer uttt_book_lookup(const uint8_t *book, size_t book_length, uint64_t count,
+                                           const uint8_t *record, size_t record_length, uint64_t rule);
+
+/*
+ * Answers a pair from the book or, if it is not held, by a search as uttt_search does it, and keeps what was found. The
+ * pool and the settings are checked in either case. A held pair's verdict is given back without a search, and nothing
+ * is written, not even in the pool. A True or False of a search is written to the book as the entry at the count, 22
+ * bytes and no others, and count is then one more; Unknown is not kept. A full book that does not hold the pair is
+ * refused before any search.
+ *
+ * Record, book and pool may not overlap: copy an entry's record out of the book before adding it under another rule.
+ */
+struct uttt_add_answer uttt_book_add(uint8_t *book, size_t book_length, uint64_t count,
+                                     const uint8_t *record, size_t record_length,
+                                     uint32_t *pool, size_t pool_words,
+                                     uint64_t rule, uint64_t limit, uint64_t budget, uint64_t interval);
 
 #ifdef __cplusplus
 }

@@ -52,9 +52,25 @@ pub struct FullAnswer {
     pub second: ResultFields,
 }
 
+#[repr(C)]
+pub struct LookupAnswer {
+    pub code: u32,
+    pub index: u64,
+    pub verdict: u32,
+}
+
+#[repr(C)]
+pub struct AddAnswer {
+    pub code: u32,
+    pub index: u64,
+    pub verdict: u32,
+    pub count: u64,
+}
+
 const _: () = assert!(size_of::<ReplayAnswer>() == 16 && size_of::<MovesAnswer>() == 24);
 const _: () = assert!(size_of::<RefereeAnswer>() == 24 && size_of::<ResultFields>() == 64);
 const _: () = assert!(size_of::<SearchAnswer>() == 80 && size_of::<FullAnswer>() == 152);
+const _: () = assert!(size_of::<LookupAnswer>() == 24 && size_of::<AddAnswer>() == 32);
 
 extern "C" {
     pub fn uttt_replay(
@@ -105,4 +121,27 @@ extern "C" {
         budget: u64,
         interval: u64,
     ) -> FullAnswer;
+
+    pub fn uttt_book_lookup(
+        book: *const u8,
+        book_length: usize,
+        count: u64,
+        record: *const u8,
+        record_length: usize,
+        rule: u64,
+    ) -> LookupAnswer;
+
+    pub fn uttt_book_add(
+        book: *mut u8,
+        book_length: usize,
+        count: u64,
+        record: *const u8,
+        record_length: usize,
+        pool: *mut u32,
+        pool_words: usize,
+        rule: u64,
+        limit: u64,
+        budget: u64,
+        interval: u64,
+    ) -> AddAnswer;
 }

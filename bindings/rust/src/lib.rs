@@ -15,11 +15,13 @@
 //! ```
 
 mod answer;
+mod book;
 mod ffi;
 mod pool;
 mod refusal;
 
 pub use answer::{Cause, FullResult, FullVerdict, SearchResult, Verdict};
+pub use book::{add_to, lookup_in, Book};
 pub use pool::Pool;
 pub use refusal::Refusal;
 
@@ -27,6 +29,8 @@ pub use refusal::Refusal;
 pub const RECORD_BYTES: usize = 21;
 /// Room that legal moves need, whatever the position.
 pub const MOVES_BYTES: usize = 81;
+/// Bytes of an entry of a book.
+pub const ENTRY_BYTES: usize = 22;
 /// Words of a node.
 pub const NODE_WORDS: usize = 5;
 /// The most nodes of a pool.

@@ -40,6 +40,10 @@ pub enum Refusal {
     NotEmpty(usize),
     /// 16: over nine empty cells in boards in play, too many for the referee.
     TooManyEmpty,
+    /// 17: the book's length is not a multiple of 22 bytes, or its count is above its entries.
+    BookSize,
+    /// 18: every entry of the book is used, and none holds the pair that is to be added.
+    BookFull,
 }
 
 impl Refusal {
@@ -64,11 +68,13 @@ impl Refusal {
             14 => Refusal::WrongBoard(at),
             15 => Refusal::NotEmpty(at),
             16 => Refusal::TooManyEmpty,
+            17 => Refusal::BookSize,
+            18 => Refusal::BookFull,
             _ => crate::answer::unnamed("code", code),
         })
     }
 
-    /// The number in the table of refusals, 1 to 16.
+    /// The number in the table of refusals, 1 to 18.
     pub fn number(self) -> u32 {
         match self {
             Refusal::RecordLength => 1,
@@ -87,6 +93,8 @@ impl Refusal {
             Refusal::WrongBoard(_) => 14,
             Refusal::NotEmpty(_) => 15,
             Refusal::TooManyEmpty => 16,
+            Refusal::BookSize => 17,
+            Refusal::BookFull => 18,
         }
     }
 
@@ -123,6 +131,8 @@ impl Refusal {
             Refusal::WrongBoard(_) => "its board is not the target",
             Refusal::NotEmpty(_) => "its cell is taken",
             Refusal::TooManyEmpty => "boards in play have over nine empty cells, too many for the referee",
+            Refusal::BookSize => "the book's length is not a multiple of 22 bytes, or its count is above its entries",
+            Refusal::BookFull => "the book is full and does not hold the pair",
         }
     }
 }

@@ -3,19 +3,24 @@
 
 use std::collections::BTreeMap;
 use ultimattt::{Cause, Refusal, Rule};
-use ultimattt::{BUDGET_MOST, INFINITY, INTERVAL_MOST, MOVES_BYTES, NODE_WORDS, POOL_MOST, RECORD_BYTES};
+use ultimattt::{BUDGET_MOST, ENTRY_BYTES, INFINITY, INTERVAL_MOST, MOVES_BYTES, NODE_WORDS, POOL_MOST, RECORD_BYTES};
 
-const LIBRARY: &str = include_str!("../../../crates/ultimattt/src/exports.rt");
+const LIBRARY: &str = concat!(
+    include_str!("../../../crates/ultimattt/src/exports.rt"),
+    include_str!("../../../crates/ultimattt/src/book_exports.rt"),
+);
 const WRAPPER: &str = include_str!("../src/ffi.rs");
 const HEADER: &str = include_str!("../../../include/ultimattt.h");
 
 /// Types of C as the wrapper writes them; what holds another comes first.
-const TYPES: [(&str, &str); 12] = [
+const TYPES: [(&str, &str); 14] = [
     ("struct uttt_replay_answer", "ReplayAnswer"),
     ("struct uttt_moves_answer", "MovesAnswer"),
     ("struct uttt_referee_answer", "RefereeAnswer"),
     ("struct uttt_search_answer", "SearchAnswer"),
     ("struct uttt_full_answer", "FullAnswer"),
+    ("struct uttt_lookup_answer", "LookupAnswer"),
+    ("struct uttt_add_answer", "AddAnswer"),
     ("struct uttt_result", "ResultFields"),
     ("const uint8_t *", "*const u8 "),
     ("uint8_t *", "*mut u8 "),
@@ -71,7 +76,16 @@ fn rust_structs(text: &str) -> Declared {
 }
 
 fn c_structs(text: &str) -> Declared {
-    let names = ["ReplayAnswer", "MovesAnswer", "RefereeAnswer", "ResultFields", "SearchAnswer", "FullAnswer"];
+    let names = [
+        "ReplayAnswer",
+        "MovesAnswer",
+        "RefereeAnswer",
+        "ResultFields",
+        "SearchAnswer",
+        "FullAnswer",
+        "LookupAnswer",
+        "AddAnswer",
+    ];
     let fields = |name: &str| {
         let (_, after) = text.split_once(&format!("\n{name} {{")).expect("the header has each struct");
         let (inside, _) = after.split_once('}').expect("a struct ends");
@@ -118,7 +132,7 @@ fn c_functions(text: &str) -> Declared {
 #[test]
 fn structs() {
     let library = rust_structs(LIBRARY);
-    assert_eq!(library.len(), 6);
+    assert_eq!(library.len(), 8);
     assert_eq!(rust_structs(WRAPPER), library);
     assert_eq!(c_structs(&header()), library);
 }
@@ -126,7 +140,7 @@ fn structs() {
 #[test]
 fn functions() {
     let library = rust_functions(LIBRARY, "pub extern \"C\" fn ");
-    assert_eq!(library.len(), 6);
+    assert_eq!(library.len(), 8);
     assert_eq!(rust_functions(WRAPPER, "pub fn "), library);
     assert_eq!(c_functions(&header()), library);
 }
@@ -159,6 +173,8 @@ fn refusals() {
         ("WRONG_BOARD", Refusal::WrongBoard(0)),
         ("NOT_EMPTY", Refusal::NotEmpty(0)),
         ("TOO_MANY_EMPTY", Refusal::TooManyEmpty),
+        ("BOOK_SIZE", Refusal::BookSize),
+        ("BOOK_FULL", Refusal::BookFull),
     ];
     for (name, refusal) in named {
         assert_eq!(number(name), u64::from(refusal.number()), "{name}");
@@ -167,7 +183,7 @@ fn refusals() {
 
 #[test]
 fn verdicts_causes_and_rules() {
-    assert_eq!(["OK", "UNKNOWN", "TRUE", "FALSE"].map(number), [0, 0, 1, 2]);
+    assert_eq!(["OK", "UNKNOWN", "NOT_HELD", "TRUE", "FALSE"].map(number), [0, 0, 0, 1, 2]);
     let full = ["FULL_UNKNOWN", "FULL_WIN", "FULL_LOSS", "FULL_DRAW", "FULL_AT_LEAST_DRAW", "FULL_AT_MOST_DRAW"];
     assert_eq!(full.map(number), [0, 1, 2, 3, 4, 5]);
     let causes = [Cause::Solved, Cause::BudgetSpent, Cause::PoolShort, Cause::OverLimit];
@@ -178,8 +194,8 @@ fn verdicts_causes_and_rules() {
 
 #[test]
 fn sizes_and_ranges() {
-    let sizes = [RECORD_BYTES, MOVES_BYTES, NODE_WORDS, POOL_MOST].map(|n| n as u64);
-    assert_eq!(["RECORD_BYTES", "MOVES_BYTES", "NODE_WORDS", "POOL_MOST"].map(number), sizes);
+    let sizes = [RECORD_BYTES, MOVES_BYTES, ENTRY_BYTES, NODE_WORDS, POOL_MOST].map(|n| n as u64);
+    assert_eq!(["RECORD_BYTES", "MOVES_BYTES", "ENTRY_BYTES", "NODE_WORDS", "POOL_MOST"].map(number), sizes);
     let ends = [BUDGET_MOST, INTERVAL_MOST, INFINITY.into()];
     assert_eq!(["BUDGET_MOST", "INTERVAL_MOST", "INFINITY"].map(number), ends);
 }

@@ -4,7 +4,7 @@ mod common;
 
 use common::{d, pool, w, x_to_move, E, FREE_CHOICE, O, X};
 use ultimattt::{agreed_opening_into, full_verdict, legal_moves_into, referee, replay, replay_into, search};
-use ultimattt::{Pool, Refusal, Rule, Settings, BUDGET_MOST, INTERVAL_MOST, NODE_WORDS, POOL_MOST};
+use ultimattt::{Book, Pool, Refusal, Rule, Settings, BUDGET_MOST, INTERVAL_MOST, NODE_WORDS, POOL_MOST};
 
 fn refused<T: std::fmt::Debug>(answer: Result<T, Refusal>, refusal: Refusal, number: u32, words: &str) {
     let found = answer.expect_err("a refusal");
@@ -94,6 +94,17 @@ fn moves() {
 fn endings() {
     let words = "boards in play have over nine empty cells, too many for the referee";
     refused(referee(&E, Rule::DrawFalse), Refusal::TooManyEmpty, 16, words);
+}
+
+#[test]
+fn books() {
+    let words = "the book's length is not a multiple of 22 bytes, or its count is above its entries";
+    refused(Book::from_bytes(vec![0; 23], 0).lookup(&E, Rule::DrawFalse), Refusal::BookSize, 17, words);
+    refused(Book::from_bytes(vec![0; 22], 2).lookup(&E, Rule::DrawFalse), Refusal::BookSize, 17, words);
+    let (usual, mut any) = (Settings::default(), pool(1));
+    refused(Book::from_bytes(vec![], 1).add(&E, &mut any, Rule::DrawFalse, &usual), Refusal::BookSize, 17, words);
+    let full = "the book is full and does not hold the pair";
+    refused(Book::new(0).add(&E, &mut any, Rule::DrawFalse, &usual), Refusal::BookFull, 18, full);
 }
 
 #[test]

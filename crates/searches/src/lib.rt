@@ -68,7 +68,7 @@ pub fn accept(bytes: &[u8], nodes: usize, rule: u64, l: SearchLimits) -> Loaded
 }
 
 // Searches an accepted record's position in the lent pool.
-fn search_accepted(start: Game, words: &mut [u32], rule: u64, l: SearchLimits) -> SearchResult
+pub fn search_accepted(start: Game, words: &mut [u32], rule: u64, l: SearchLimits) -> SearchResult
     requires { ⌜ ((bytes : List ℕ) × Passed bytes (start .words) (length (now words)) rule (limitsOf l)) ⌝ }
     ensures { λ r. ⌜ SearchesPassed (start .words) rule (limitsOf l) (now (words .entry)) (now (words .exit)) r ⌝ }
 {

@@ -1,5 +1,5 @@
 -- The cases of MANUAL, Positions to try, that are proved from the definitions, in one lemma, with ours. Rests on Calls and Searches, on plain's Cases
--- for the records E, W and D and for the plain machine's results, on RoomCases and on the Cases of sheets and cells.
+-- for the records E, W and D and for the plain machine's results, on RoomCases and on the Cases of sheets, book and cells.
 use mathlib.Core.Path.{_≡_, refl}
 use mathlib.Core.List.{List, [], _∷_, _++_}
 use Prim.Native.Nat.{ℕ}
@@ -15,6 +15,7 @@ use Rattle.plain.specs.Cases.{record21, E, W, D, fields, starred}
 use Rattle.plain.specs.Oracle.{last-x}
 use Rattle.referee.specs.OpenCells.{openCells}
 use Rattle.calls.specs.Calls.{replayOutcome, refereeOutcome, afterMoves, outputRefusal, replayCall, movesCall, refereeRefusal, refereeCall}
+use Rattle.book.specs.Cases.{BookCases, book-cases}
 use Rattle.cells.specs.Cases.{WordsCases, words-cases}
 use Rattle.sheets.specs.Cases.{SheetsCases, sheets-cases}
 use Rattle.searches.specs.SearchAnswers.{search-answered, full-with}
@@ -90,6 +91,8 @@ pub record Cases : Type 0 where
   pub full-short : fullCall last-x (pool 2) (judging 100000) ≡ Full AtLeastDraw short-at-once (fields True 0 2147483648 2 1 1 0 1 0)
   -- two sheets: the cases of crate sheets
   pub sheets : SheetsCases
+  -- a book of verdicts: the cases of crate book
+  pub book : BookCases
   -- a record's three words: the cases of crate cells; E with 03 32 and with 32, which take cell 29, and code 3 there
   pub words : WordsCases
   pub O-29 : replayCall E (0x03 ∷ 0x32 ∷ []) out21 ≡ replayOutcome 0 0 (record21 0x100800000000000100000000000000000000000000)
@@ -135,6 +138,7 @@ cases = record {
   room = room-answers;
   full-short = room-cases.full-short;
   sheets = sheets-cases;
+  book = book-cases;
   words = words-cases;
   O-29 = refl;
   X-29 = refl;

@@ -1,0 +1,122 @@
+//! A book of verdicts.
+
+use crate::{answer, ffi, Pool, Refusal, Rule, Settings, Verdict, ENTRY_BYTES};
+
+/// Verdicts that are kept: entries of 22 bytes, of which the first ones are used, each with a record, a rule and True
+/// or False. The bytes are laid out as include/ultimattt.h says; with the count they can be stored and read back.
+///
+/// ```
+/// use ultimattt::{Book, Pool, Rule, Settings, Verdict};
+///
+/// // X to move wins at once.
+/// let mut record = [0; 21];
+/// record[..11].copy_from_slice(&[0x12, 0xA0, 0x00, 0xA8, 0x00, 0x28, 0x05, 0x15, 0x00, 0x05, 0x40]);
+/// let mut book = Book::new(1_000);
+/// assert_eq!(book.lookup(&record, Rule::DrawFalse)?, None);
+/// let verdict = book.add(&record, &mut Pool::default(), Rule::DrawFalse, &Settings::default())?;
+/// assert_eq!((verdict, book.count()), (Verdict::True, 1));
+/// assert_eq!(book.lookup(&record, Rule::DrawFalse)?, Some(true));
+/// # Ok::<(), ultimattt::Refusal>(())
+/// ```
+#[derive(Clone, Debug, Default)]
+pub struct Book {
+    bytes: Vec<u8>,
+    count: usize,
+}
+
+impl Book {
+    /// An empty book with room for so many entries.
+    pub fn new(entries: usize) -> Book {
+        Book { bytes: vec![0; entries * ENTRY_BYTES], count: 0 }
+    }
+
+    /// A book of these bytes, with so many entries used. If they don't go together its calls are refused with
+    /// [`Refusal::BookSize`]; whether a verdict among them is true is not checked.
+    pub fn from_bytes(bytes: Vec<u8>, count: usize) -> Book {
+        Book { bytes, count }
+    }
+
+    pub fn into_bytes(self) -> Vec<u8> {
+        self.bytes
+    }
+
+    pub fn bytes(&self) -> &[u8] {
+        &self.bytes
+    }
+
+    /// How many entries are used.
+    pub fn count(&self) -> usize {
+        self.count
+    }
+
+    /// How many entries there is room for, the used ones too.
+    pub fn entries(&self) -> usize {
+        self.bytes.len() / ENTRY_BYTES
+    }
+
+    /// Makes room for so many entries more.
+    pub fn grow(&mut self, entries: usize) {
+        self.bytes.resize(self.bytes.len() + entries * ENTRY_BYTES, 0);
+    }
+
+    /// What the book holds for the record and the rule: True or False, for the side to move, or `None`.
+    pub fn lookup(&self, record: &[u8], rule: Rule) -> Result<Option<bool>, Refusal> {
+        lookup_in(&self.bytes, self.count, record, rule)
+    }
+
+    /// The verdict that the book holds for the record and the rule. If it holds none, the position is searched, and a
+    /// True or False is kept: it takes the next entry. Pool and settings are checked in either case.
+    ///
+    /// If the book is full and doesn't hold the pair, nothing is searched: [`Refusal::BookFull`]. The record can't be a
+    /// part of the book, which is written: copy an entry's record out before adding it under another rule.
+    pub fn add(&mut self, record: &[u8], pool: &mut Pool, rule: Rule, s: &Settings) -> Result<Verdict, Refusal> {
+        add_to(&mut self.bytes, &mut self.count, record, pool, rule, s)
+    }
+}
+
+/// [`Book::lookup`] in lent memory.
+pub fn lookup_in(book: &[u8], count: usize, record: &[u8], rule: Rule) -> Result<Option<bool>, Refusal> {
+    // SAFETY: both slices are valid for their lengths, and nothing is written.
+    let answer = unsafe {
+        ffi::uttt_book_lookup(book.as_ptr(), book.len(), count as u64, record.as_ptr(), record.len(), rule.number())
+    };
+    Refusal::check(answer.code, answer.index)?;
+    match answer.verdict {
+        0 => Ok(None),
+        1 => Ok(Some(true)),
+        2 => Ok(Some(false)),
+        number => answer::unnamed("verdict", number),
+    }
+}
+
+/// [`Book::add`] in lent memory. The count is one more if an entry was written; of the book, that entry alone is.
+pub fn add_to(
+    book: &mut [u8],
+    count: &mut usize,
+    record: &[u8],
+    pool: &mut Pool,
+    rule: Rule,
+    s: &Settings,
+) -> Result<Verdict, Refusal> {
+    let words = pool.words_mut();
+    // SAFETY: the three slices are valid for their lengths, and a &mut overlaps nothing.
+    let answer = unsafe {
+        ffi::uttt_book_add(
+            book.as_mut_ptr(),
+            book.len(),
+            *count as u64,
+            record.as_ptr(),
+            record.len(),
+            words.as_mut_ptr(),
+            words.len(),
+            rule.number(),
+            s.limit,
+            s.budget,
+            s.interval,
+        )
+    };
+    // With a refusal it is the count that came in.
+    *count = answer.count as usize;
+    Refusal::check(answer.code, answer.index)?;
+    Ok(Verdict::named(answer.verdict))
+}

@@ -1,0 +1,252 @@
+//! The book of verdicts (MANUAL, Calls): which entry is found, what an add writes, and what comes first when both calls
+//! are refused.
+
+mod common;
+
+use common::{budget, d, pool, w, x_to_move, E, FREE_CHOICE, O, X};
+use ultimattt::{add_to, lookup_in, search, Book, Pool, Record, Refusal, Rule, Settings, Verdict, ENTRY_BYTES};
+
+const RULES: [Rule; 3] = [Rule::DrawLostByMover, Rule::DrawFalse, Rule::DrawTrue];
+const TRUE: u8 = 1;
+const FALSE: u8 = 2;
+const MARK: u8 = 0xEE;
+/// More expansions than W and D take.
+const ENOUGH: u64 = 10;
+
+/// An entry with these two bits of verdict.
+fn entry(record: &Record, rule: Rule, verdict: u8) -> Vec<u8> {
+    let last = (rule.number() as u8) << 6 | verdict << 4;
+    [&record[..], &[last]].concat()
+}
+
+/// A book of these entries, all of them used.
+fn used(entries: &[Vec<u8>]) -> Book {
+    Book::from_bytes(entries.concat(), entries.len())
+}
+
+fn found(book: &Book, record: &Record, rule: Rule) -> Option<bool> {
+    book.lookup(record, rule).expect("an accepted lookup")
+}
+
+/// An add with a new pool.
+fn add(book: &mut Book, record: &Record, rule: Rule) -> Result<Verdict, Refusal> {
+    book.add(record, &mut pool(50), rule, &budget(ENOUGH))
+}
+
+/// D is drawn: False under rules 0 and 1, True under rule 2. Each pair has its own entry.
+#[test]
+fn one_record_under_three_rules() {
+    let drawn = d(FREE_CHOICE);
+    let values = [Verdict::False, Verdict::False, Verdict::True];
+    let mut book = Book::new(3);
+    for (i, (rule, value)) in RULES.into_iter().zip(values).enumerate() {
+        assert_eq!(found(&book, &drawn, rule), None);
+        assert_eq!(add(&mut book, &drawn, rule), Ok(value));
+        assert_eq!((book.count(), found(&book, &drawn, rule)), (i + 1, Some(value == Verdict::True)));
+    }
+    let stored = [(RULES[0], FALSE), (RULES[1], FALSE), (RULES[2], TRUE)].map(|(r, v)| entry(&drawn, r, v)).concat();
+    assert_eq!(book.bytes(), stored);
+    assert_eq!(found(&book, &w(), Rule::DrawFalse), None);
+}
+
+/// The second add is not a search: it has no budget for one, and the pool's words stay as they are.
+#[test]
+fn added_twice() {
+    let mut book = Book::new(2);
+    assert_eq!(add(&mut book, &w(), Rule::DrawFalse), Ok(Verdict::True));
+    let before = book.bytes().to_vec();
+    let mut pool = Pool::from_words(vec![0xA5A5_A5A5; 34]);
+    assert_eq!(search(&w(), &mut pool.clone(), Rule::DrawFalse, &budget(0)).unwrap().verdict, Verdict::Unknown);
+    assert_eq!(book.add(&w(), &mut pool, Rule::DrawFalse, &budget(0)), Ok(Verdict::True));
+    assert_eq!(pool.words(), [0xA5A5_A5A5; 34]);
+    assert_eq!((book.count(), book.bytes()), (1, &before[..]));
+}
+
+#[test]
+fn unknown_is_not_kept() {
+    let mut book = Book::from_bytes(vec![MARK; 2 * ENTRY_BYTES], 0);
+    assert_eq!(book.add(&w(), &mut pool(50), Rule::DrawFalse, &budget(0)), Ok(Verdict::Unknown));
+    assert_eq!((book.count(), book.bytes()), (0, &[MARK; 44][..]));
+    assert_eq!(found(&book, &w(), Rule::DrawFalse), None);
+    assert_eq!(add(&mut book, &w(), Rule::DrawFalse), Ok(Verdict::True));
+}
+
+/// Of the book an add writes the entry at the count, of the pool no word past the last whole node.
+#[test]
+fn what_an_add_writes() {
+    for count in 0..3 {
+        let mut memory = [MARK; 4 * ENTRY_BYTES];
+        let (mut after, mut pool) = (count, Pool::from_words(vec![7; 34]));
+        let answer = add_to(&mut memory[..66], &mut after, &w(), &mut pool, Rule::DrawTrue, &budget(ENOUGH));
+        assert_eq!((answer, after), (Ok(Verdict::True), count + 1));
+        let mut due = [MARK; 4 * ENTRY_BYTES];
+        due[count * ENTRY_BYTES..][..ENTRY_BYTES].copy_from_slice(&entry(&w(), Rule::DrawTrue, TRUE));
+        assert_eq!(memory, due);
+        assert_eq!(pool.words()[30..], [7; 4]);
+    }
+}
+
+#[test]
+fn entries_past_the_count() {
+    let past = entry(&w(), Rule::DrawFalse, FALSE);
+    let mut book = Book::from_bytes([entry(&E, Rule::DrawFalse, TRUE), past].concat(), 1);
+    assert_eq!(found(&book, &w(), Rule::DrawFalse), None);
+    assert_eq!(add(&mut book, &w(), Rule::DrawFalse), Ok(Verdict::True));
+    assert_eq!(book.bytes()[ENTRY_BYTES..], entry(&w(), Rule::DrawFalse, TRUE));
+    assert_eq!((book.count(), found(&book, &w(), Rule::DrawFalse)), (2, Some(true)));
+}
+
+/// The first entry of a pair counts, and an add of the pair says what it says.
+#[test]
+fn entries_that_contradict_each_other() {
+    for (first, second, value) in [(TRUE, FALSE, true), (FALSE, TRUE, false)] {
+        let others = [entry(&w(), Rule::DrawTrue, second), entry(&E, Rule::DrawFalse, second)];
+        let pair = [entry(&w(), Rule::DrawFalse, first), entry(&w(), Rule::DrawFalse, second)];
+        let mut book = used(&[&others[..], &pair[..]].concat());
+        assert_eq!(found(&book, &w(), Rule::DrawFalse), Some(value));
+        let said = if value { Verdict::True } else { Verdict::False };
+        assert_eq!(add(&mut book, &w(), Rule::DrawFalse), Ok(said));
+        assert_eq!(book.count(), 4);
+    }
+}
+
+/// Verdict bits 0 and 3 hold nothing, and don't hide what comes after them.
+#[test]
+fn verdict_bits_of_no_verdict() {
+    for bits in [0, 3] {
+        let mut book = used(&[entry(&w(), Rule::DrawFalse, bits)]);
+        assert_eq!(found(&book, &w(), Rule::DrawFalse), None);
+        assert_eq!(add(&mut book, &w(), Rule::DrawFalse), Err(Refusal::BookFull));
+        book.grow(1);
+        assert_eq!(add(&mut book, &w(), Rule::DrawFalse), Ok(Verdict::True));
+        assert_eq!((book.count(), found(&book, &w(), Rule::DrawFalse)), (2, Some(true)));
+    }
+}
+
+/// The four low bits of an entry's last byte make no difference.
+#[test]
+fn low_bits() {
+    for low in 0..16 {
+        let mut bytes = entry(&w(), Rule::DrawFalse, FALSE);
+        bytes[21] |= low;
+        assert_eq!(found(&Book::from_bytes(bytes, 1), &w(), Rule::DrawFalse), Some(false));
+    }
+}
+
+/// Every bit of the record and of the rule is compared.
+#[test]
+fn one_bit_apart() {
+    let alike = entry(&w(), Rule::DrawFalse, TRUE);
+    for bit in 0..170 {
+        let mut bytes = alike.clone();
+        bytes[bit / 8] ^= 0x80 >> (bit % 8);
+        assert_eq!(found(&Book::from_bytes(bytes, 1), &w(), Rule::DrawFalse), None, "bit {bit}");
+    }
+    assert_eq!(found(&used(&[alike]), &w(), Rule::DrawFalse), Some(true));
+}
+
+/// Books of zeros, which hold nothing, of every small length and with counts in and out of their range.
+#[test]
+fn sizes_of_a_book() {
+    let counts = [0, 1, 2, 3, usize::MAX / 22, usize::MAX / 22 + 1, usize::MAX];
+    let sizes = [(0, Some(0)), (21, None), (22, Some(1)), (23, None), (43, None), (44, Some(2))];
+    for (count, (length, entries)) in counts.into_iter().flat_map(|count| sizes.map(|size| (count, size))) {
+        let mut book = Book::from_bytes(vec![0; length], count);
+        let (looked_up, added) = match entries {
+            Some(most) if count < most => (Ok(None), Ok(Verdict::True)),
+            Some(most) if count == most => (Ok(None), Err(Refusal::BookFull)),
+            _ => (Err(Refusal::BookSize), Err(Refusal::BookSize)),
+        };
+        assert_eq!(book.lookup(&w(), Rule::DrawFalse), looked_up, "{length} bytes, count {count}");
+        assert_eq!(add(&mut book, &w(), Rule::DrawFalse), added, "{length} bytes, count {count}");
+        assert_eq!(book.count(), if added.is_ok() { count + 1 } else { count });
+    }
+}
+
+/// In a full book a held pair is answered; any other is refused without a search, be it Unknown or not.
+#[test]
+fn a_full_book() {
+    let mut book = used(&[entry(&w(), Rule::DrawFalse, TRUE)]);
+    let before = book.bytes().to_vec();
+    assert_eq!(add(&mut book, &w(), Rule::DrawFalse), Ok(Verdict::True));
+    let mut pool = Pool::from_words(vec![0xA5A5_A5A5; 34]);
+    for (record, rule, expansions) in [(w(), Rule::DrawTrue, ENOUGH), (w(), Rule::DrawTrue, 0), (E, Rule::DrawFalse, 0)]
+    {
+        assert_eq!(book.add(&record, &mut pool, rule, &budget(expansions)), Err(Refusal::BookFull));
+    }
+    assert_eq!(pool.words(), [0xA5A5_A5A5; 34]);
+    assert_eq!((book.count(), book.bytes()), (1, &before[..]));
+    assert_eq!((book.entries(), Book::new(0).entries()), (1, 0));
+}
+
+/// Records that checks 1 to 6 refuse, in their order.
+fn refused_records() -> [Vec<u8>; 6] {
+    let of_both: (&[usize], &[usize], u8) = (&[0], &[3, 4, 5], O);
+    let won: (&[usize], &[usize], u8) = (&[0, 1, 2], &[0, 1, 2], X);
+    [
+        vec![],
+        x_to_move(9, &[]).to_vec(),
+        x_to_move(FREE_CHOICE, &[(&[0], &[0], X)]).to_vec(),
+        x_to_move(FREE_CHOICE, &[(&[0], &[0, 1, 2], X), of_both]).to_vec(),
+        x_to_move(FREE_CHOICE, &[won, (&[3, 4, 5], &[0, 1, 3], O)]).to_vec(),
+        d(0).to_vec(),
+    ]
+}
+
+/// A refused record comes ahead of all else that is wrong.
+#[test]
+fn refused_records_in_a_broken_book() {
+    let mut book = Book::from_bytes(vec![MARK; 23], 7);
+    let (mut none, late) = (Pool::from_words(vec![]), Settings { interval: 0, ..budget(1) });
+    for (record, number) in refused_records().iter().zip(1..) {
+        assert_eq!(book.lookup(record, Rule::DrawFalse).unwrap_err().number(), number);
+        assert_eq!(book.add(record, &mut none, Rule::DrawFalse, &late).unwrap_err().number(), number);
+    }
+    assert_eq!((book.count(), book.bytes()), (7, &[MARK; 23][..]));
+}
+
+/// Pool and settings come ahead of the book; a refused add gives its count back and writes nothing.
+#[test]
+fn order_of_the_checks() {
+    let late = Settings { interval: 0, ..budget(1) };
+    let (mut none, mut small) = (Pool::from_words(vec![]), pool(2));
+    for length in [21, 22, 23] {
+        let mut book = Book::from_bytes(vec![MARK; length], 7);
+        assert_eq!(book.add(&w(), &mut none, Rule::DrawFalse, &late), Err(Refusal::PoolEmpty));
+        assert_eq!(book.add(&w(), &mut small, Rule::DrawFalse, &late), Err(Refusal::SettingRange));
+        assert_eq!(book.add(&w(), &mut small, Rule::DrawFalse, &budget(1)), Err(Refusal::BookSize));
+        assert_eq!((book.count(), book.into_bytes()), (7, vec![MARK; length]));
+    }
+}
+
+/// A held pair is refused too if the pool or a setting is.
+#[test]
+fn checks_of_a_held_pair() {
+    let mut book = used(&[entry(&w(), Rule::DrawFalse, TRUE)]);
+    let late = Settings { interval: 0, ..budget(1) };
+    assert_eq!(book.add(&w(), &mut Pool::from_words(vec![0; 4]), Rule::DrawFalse, &late), Err(Refusal::PoolEmpty));
+    assert_eq!(book.add(&w(), &mut pool(1), Rule::DrawFalse, &late), Err(Refusal::SettingRange));
+    assert_eq!(book.add(&w(), &mut pool(1), Rule::DrawFalse, &budget(0)), Ok(Verdict::True));
+}
+
+/// A lookup writes nothing, so its record may be an entry's, where it stands.
+#[test]
+fn looked_up_with_the_record_of_an_entry() {
+    let book = used(&[entry(&w(), Rule::DrawFalse, TRUE), entry(&d(FREE_CHOICE), Rule::DrawTrue, FALSE)]);
+    let bytes = book.bytes();
+    assert_eq!(lookup_in(bytes, 2, &bytes[22..43], Rule::DrawTrue), Ok(Some(false)));
+    assert_eq!(lookup_in(bytes, 2, &bytes[22..44], Rule::DrawTrue), Err(Refusal::RecordLength));
+}
+
+/// What was stored is found again in a copy that was read back.
+#[test]
+fn stored_and_read_back() {
+    let mut book = Book::new(4);
+    let records = [w(), d(FREE_CHOICE)];
+    let pairs = || records.iter().flat_map(|record| RULES[1..].iter().map(move |rule| (record, *rule)));
+    let verdicts: Vec<Verdict> = pairs().map(|(record, rule)| add(&mut book, record, rule).unwrap()).collect();
+    assert_eq!(verdicts, [Verdict::True, Verdict::True, Verdict::False, Verdict::True]);
+    let copy = Book::from_bytes(book.bytes().to_vec(), book.count());
+    let found: Vec<Option<bool>> = pairs().map(|(record, rule)| found(&copy, record, rule)).collect();
+    assert_eq!(found, [Some(true), Some(true), Some(false), Some(true)]);
+}

@@ -1,0 +1,30 @@
+-- `book::accept_add` meets its contract: search's checks, and 17 after them. Assumes nothing.
+use Rattle.book.specs.Ways.{add-code, add-loaded}
+use borrow.Author.Needs.{needs}
+use Rattle.book.proofs.accept_add.Statement.{statement}
+use Rattle.book.proofs.accept_add.Tie as tie
+
+accept-requires : tie.Need-accept-requires
+accept-requires c κs = search needs
+
+broken-requires : tie.Need-broken-requires
+broken-requires c κs = search needs
+
+refuses-requires : tie.Need-refuses-requires
+refuses-requires c κs = search needs
+
+slice-aggregate-first : tie.Need-slice-aggregate-first
+slice-aggregate-first c = search needs
+
+first-requires : tie.Need-first-requires
+first-requires c κs = search needs
+
+returns : tie.Need-returns
+returns c =
+    let late = c .before .before in
+    let broken = late .before in
+    let accepted = broken .before .before in
+    (add-code _ _ _ _ _ (accepted .accept .ensures .0) (broken .broken .ensures) (late .refuses .ensures) (c .first .ensures), λ z. accepted .accept .ensures .1 (add-loaded _ _ _ (c .first .ensures) z))
+
+pub accept-add-spec : {M : Type 1} → statement M
+accept-add-spec = tie.close (tie.spec accept-requires broken-requires refuses-requires slice-aggregate-first first-requires returns)

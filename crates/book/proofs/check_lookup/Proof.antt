@@ -1,0 +1,33 @@
+-- `book::check_lookup` meets its contract, check by check. Assumes nothing.
+use Rattle.book.specs.Ways.{lookup-code}
+use borrow.Author.Needs.{needs}
+use Rattle.book.proofs.check_lookup.Statement.{statement}
+use Rattle.book.proofs.check_lookup.Tie as tie
+
+load-requires : tie.Need-load-requires
+load-requires c κs = search needs
+
+refuses-requires : tie.Need-refuses-requires
+refuses-requires c κs = search needs
+
+broken-requires : tie.Need-broken-requires
+broken-requires c κs = search needs
+
+refuses-requires-2 : tie.Need-refuses-requires-2
+refuses-requires-2 c κs = search needs
+
+slice-aggregate-first : tie.Need-slice-aggregate-first
+slice-aggregate-first c = search needs
+
+first-requires : tie.Need-first-requires
+first-requires c κs = search needs
+
+returns : tie.Need-returns
+returns c =
+    let late = c .before .before in
+    let broken = late .before in
+    let rule-most = broken .before in
+    lookup-code _ _ _ (rule-most .before .load .ensures .0) (rule-most .refuses .ensures) (broken .broken .ensures) (late .refuses2 .ensures) (c .first .ensures)
+
+pub check-lookup-spec : {M : Type 1} → statement M
+check-lookup-spec = tie.close (tie.spec load-requires refuses-requires broken-requires refuses-requires-2 slice-aggregate-first first-requires returns)

@@ -1,0 +1,91 @@
+-- What lookup and add of a book of verdicts answer and what they leave in the book, as functions of what comes in. The checks stand in their order (MANUAL,
+-- Calls; Turned back), and a refusal leaves every byte and the count as they were. Rests on the entries, on the record's checks, and on search's checks and
+-- settings.
+use mathlib.Core.Path.{_≡_}
+use mathlib.Core.Bool.{Bool, true, false, not, _||_}
+use mathlib.Core.List.{List, [], _∷_}
+use Prim.Native.Nat.{ℕ, zero, suc, _/_, _%_}
+use lib.Dec.{eqb, leb, ltb}
+use lib.ListN.{length}
+use Rattle.rules.specs.Record.{refusal}
+use Rattle.rules.specs.Refusals.{refuses, firstRefusal}
+use Rattle.prove.specs.Numbers.{verdictNumber}
+use Rattle.plain.specs.Plain.{plainSearch}
+use Rattle.calls.specs.Calls.{lastRule, answerUnless}
+use Rattle.searches.specs.Searches.{Limits, nodes, settings, searchRefusal, Untouched}
+use Rattle.entries.specs.Entries.{Entry, entries, withEntries, find, newEntry, storing}
+
+-- A book: the lent buffer, and the count of its used entries.
+pub record Book : Type 0 where
+  pub bytes : List ℕ
+  pub count : ℕ
+
+abbrev pub bookOf : (bytes : List ℕ) (count : ℕ) → Book
+bookOf bytes count = record { bytes = bytes; count = count }
+
+-- How many entries the buffer has, and the used ones.
+abbrev pub size : Book → ℕ
+size B = length (B .bytes) / 22
+
+abbrev pub used : Book → List Entry
+used B = entries (B .count) (B .bytes)
+
+-- Check 17: the buffer is no whole number of entries, or the count is above them.
+abbrev pub broken : Book → Bool
+broken B = not (eqb (length (B .bytes) % 22) 0) || ltb (size B) (B .count)
+
+-- What a call answers and leaves: 0 or the number of the refusal; the index, 0 always; the verdict, 1 True, 2 False, 0 where there is none; whether it
+-- searched; the book afterwards.
+pub record BookOutcome : Type 0 where
+  pub number : ℕ
+  pub index : ℕ
+  pub verdict : ℕ
+  pub searched : Bool
+  pub left : Book
+
+abbrev pub bookOutcome : (number index verdict : ℕ) (searched : Bool) → Book → BookOutcome
+bookOutcome n i v s B = record { number = n; index = i; verdict = v; searched = s; left = B }
+
+-- Refused; a verdict, or none, without a search; and with one.
+abbrev pub refused : Book → ℕ → BookOutcome
+refused B n = bookOutcome n 0 0 false B
+
+abbrev pub holding : Book → ℕ → BookOutcome
+holding B v = bookOutcome 0 0 v false B
+
+abbrev pub searching : Book → ℕ → BookOutcome
+searching B v = bookOutcome 0 0 v true B
+
+-- Lookup: checks 1 to 6, 10 of the rule, and 17. The verdict that is found, or 0: not held.
+unfoldable pub lookupRefusal : (bytes : List ℕ) (rule : ℕ) → Book → ℕ
+lookupRefusal bytes rule B = firstRefusal (refusal bytes ∷ refuses 10 (ltb lastRule rule) ∷ refuses 17 (broken B) ∷ [])
+
+unfoldable pub lookupCall : (bytes : List ℕ) (rule : ℕ) → Book → BookOutcome
+lookupCall bytes rule B = answerUnless (lookupRefusal bytes rule B) (refused B) (holding B (find bytes rule (used B)))
+
+-- Add: search's checks, and 17.
+unfoldable pub addRefusal : (bytes : List ℕ) (capacity rule : ℕ) → Limits → Book → ℕ
+addRefusal bytes capacity rule L B = firstRefusal (searchRefusal bytes capacity rule L ∷ refuses 17 (broken B) ∷ [])
+
+-- The verdict of the search; a book with a verdict stored, as the entry at its count; an Unknown, 0, is not stored.
+abbrev pub searchedVerdict : (bytes : List ℕ) (words rule : ℕ) → Limits → ℕ
+searchedVerdict bytes words rule L = verdictNumber (plainSearch rule (settings words L) bytes .verdict)
+
+abbrev pub storedIn : Book → (bytes : List ℕ) (rule verdict : ℕ) → Book
+storedIn B bytes rule zero = B
+storedIn B bytes rule (suc v) = bookOf (withEntries (storing (newEntry bytes rule (suc v)) (used B)) (B .bytes)) (suc (B .count))
+
+abbrev pub searchingFor : Book → (bytes : List ℕ) (rule verdict : ℕ) → BookOutcome
+searchingFor B bytes rule v = searching (storedIn B bytes rule v) v
+
+-- A pair that is held is answered by its verdict; otherwise comes check 18, the book is full; and then the search.
+unfoldable pub addCall : (bytes : List ℕ) (words rule : ℕ) → Limits → Book → BookOutcome
+addCall bytes words rule L B =
+    answerUnless (addRefusal bytes (nodes words) rule L B) (refused B)
+    (answerUnless (find bytes rule (used B)) (holding B)
+    (answerUnless (refuses 18 (leb (size B) (B .count))) (refused B) (searchingFor B bytes rule (searchedVerdict bytes words rule L))))
+
+-- The pool's words after an add: as they were, unless it searched; then those past the capacity are.
+abbrev pub PoolAfterAdd : (searched : Bool) (before after : List ℕ) → Type 0
+PoolAfterAdd false before after = after ≡ before
+PoolAfterAdd true before after = Untouched before after

@@ -1,0 +1,9 @@
+pub mod Book
+pub mod Lists
+pub mod BookStatement
+pub mod Answers
+pub mod Passing
+pub mod Changes
+pub mod Kept
+pub mod Ways
+pub mod Cases

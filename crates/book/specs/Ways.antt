@@ -1,0 +1,120 @@
+-- The calls by the check that decides, as the code goes through them. Rests on Book, Answers and Passing.
+use mathlib.Core.Path.{_≡_, refl, sym, subst, _∙_}
+use mathlib.Core.Bool.{Bool, true, false}
+use mathlib.Core.List.{List, [], _∷_}
+use Prim.Native.Nat.{ℕ, zero, suc, _+_, _*_, _/_, _%_, _≤_, _<_}
+use native.Mathlib.Omega.{arith}
+use native.Mathlib.Numerals.{add-one}
+use borrow.Author.Tests.{eq-eqb, ne-eqb, le-leb, lt-leb}
+use lib.Dec.{eqb, leb, ltb}
+use lib.ListN.{length}
+use Rattle.rules.specs.Record.{positionOf, refusal}
+use Rattle.rules.specs.Refusals.{refuses, firstRefusal}
+use Rattle.rules.specs.RefusalLaws.{none-refuses}
+use Rattle.game.specs.Words.{Holds}
+use Rattle.machine.specs.Machine.{Verdict, True, False, Unknown}
+use Rattle.prove.specs.Numbers.{verdictNumber}
+use Rattle.calls.specs.Calls.{lastRule}
+use Rattle.calls.specs.Refusing.{refused-by}
+use Rattle.searches.specs.Searches.{Limits, nodes, searchRefusal}
+use Rattle.searches.specs.Accepting.{Passed}
+use Rattle.entries.specs.Entries.{withEntries, find, newEntry, storing}
+use Rattle.book.specs.Book.{Book, bookOf, BookOutcome, bookOutcome, size, used, broken, refused, holding, searching, lookupRefusal, lookupCall, addRefusal, searchedVerdict, searchingFor, addCall, PoolAfterAdd}
+use Rattle.book.specs.Passing.{Fits, LookupPassed, lookup-passed, AddPassed, add-passed, record-length}
+
+-- check 17
+module _ (bytes : List ℕ) (count : ℕ) where
+  pub bytes-over : (length bytes % 22 ≡ 0 → ⊥) → true ≡ broken (bookOf bytes count)
+  bytes-over n = rw (ne-eqb (length bytes % 22) 0 n)
+
+  pub whole-entries : length bytes % 22 ≡ 0 → ltb (length bytes / 22) count ≡ broken (bookOf bytes count)
+  whole-entries e = rw e
+
+-- what the scan asks for
+abbrev ToFind : (bytes : List ℕ) → Book → Type 0
+ToFind bytes B = (length bytes ≡ 21) × (B .count * 22 ≤ length (B .bytes))
+
+to-find : (bytes : List ℕ) (B : Book) → refusal bytes ≡ 0 → Fits B → ToFind bytes B
+to-find bytes B e f = (record-length bytes e, omega (arith, f .within))
+
+-- a lookup
+module _ (bytes : List ℕ) (rule : ℕ) (B : Book) where
+  pub lookup-code : {a b d n : ℕ} {t : Bool} → a ≡ refusal bytes → b ≡ refuses 10 (ltb lastRule rule) → t ≡ broken B → d ≡ refuses 17 t → n ≡ firstRefusal (a ∷ b ∷ d ∷ [])
+      → n ≡ lookupRefusal bytes rule B
+  unfolding lookupRefusal
+  lookup-code ea eb et ed en = rw (en, ea, eb, ed, et)
+
+  pub lookup-turned : {n : ℕ} → n ≡ lookupRefusal bytes rule B → (n ≡ 0 → ⊥) → refused B n ≡ lookupCall bytes rule B
+  unfolding lookupCall
+  lookup-turned e z = refused-by (refused B) _ _ _ e z
+
+  pub lookup-scans : {n : ℕ} → n ≡ lookupRefusal bytes rule B → n ≡ 0 → ToFind bytes B
+  lookup-scans e z = let p = lookup-passed bytes rule B (sym e ∙ z) in to-find bytes B (p .loaded) (p .book-fits)
+
+  pub lookup-found : {n v : ℕ} → n ≡ lookupRefusal bytes rule B → n ≡ 0 → v ≡ find bytes rule (used B) → holding B v ≡ lookupCall bytes rule B
+  unfolding lookupCall
+  lookup-found e z f = rw (← e, z, f)
+
+-- a search and what it stores
+pub verdict-few : (v : Verdict) → verdictNumber v < 4
+verdict-few True = omega arith
+verdict-few False = omega arith
+verdict-few Unknown = omega arith
+
+module _ (B : Book) (bytes : List ℕ) (rule : ℕ) where
+  pub none-stored : {v n : ℕ} → v ≡ n → v ≡ 0 → searching B 0 ≡ searchingFor B bytes rule n
+  none-stored e z = rw (← e, z)
+
+  pub one-stored : {n : ℕ} (v : ℕ) → v ≡ n → (v ≡ 0 → ⊥) → {after : List ℕ} → after ≡ withEntries (storing (newEntry bytes rule v) (used B)) (B .bytes)
+      → searching (bookOf after (B .count + 1)) v ≡ searchingFor B bytes rule n
+  one-stored zero e z w = absurd (z refl)
+  one-stored (suc v) e z w = rw (← e, w, add-one)
+
+-- an add
+pub add-code : (bytes : List ℕ) (capacity rule : ℕ) (L : Limits) (B : Book) {a d n : ℕ} {t : Bool} → a ≡ searchRefusal bytes capacity rule L → t ≡ broken B → d ≡ refuses 17 t
+    → n ≡ firstRefusal (a ∷ d ∷ []) → n ≡ addRefusal bytes capacity rule L B
+unfolding addRefusal
+add-code bytes capacity rule L B ea et ed en = rw (en, ea, ed, et)
+
+pub add-loaded : (a d n : ℕ) → n ≡ firstRefusal (a ∷ d ∷ []) → n ≡ 0 → a ≡ 0
+add-loaded a d n e z = none-refuses _ _ (sym e ∙ z) .0
+
+module _ (bytes : List ℕ) (words rule : ℕ) (L : Limits) (B : Book) {n capacity : ℕ} (a : n ≡ addRefusal bytes capacity rule L B) (q : capacity ≡ nodes words) where
+  its-code : n ≡ addRefusal bytes (nodes words) rule L B
+  its-code = rw (← q) a
+
+  pub add-turned : (n ≡ 0 → ⊥) → refused B n ≡ addCall bytes words rule L B
+  unfolding addCall
+  add-turned z = refused-by (refused B) _ _ _ its-code z
+
+  module _ (z : n ≡ 0) where
+    passed : AddPassed bytes words rule L B
+    passed = add-passed bytes words rule L B (sym its-code ∙ z)
+
+    pub add-scans : ToFind bytes B
+    add-scans = to-find bytes B (passed .accepted .loads) (passed .book-fits)
+
+    pub add-accepted : {g : List ℕ} → Holds (positionOf bytes) g 0 → Passed bytes g words rule L
+    add-accepted h = record { holds = h; none = passed .none }
+
+    module _ {v : ℕ} (f : v ≡ find bytes rule (used B)) where
+      pub add-held : (v ≡ 0 → ⊥) → holding B v ≡ addCall bytes words rule L B
+      unfolding addCall
+      add-held y = rw (← its-code, z) (refused-by (holding B) _ v _ f y)
+
+      module _ (y : v ≡ 0) where
+        pub add-full : size B ≤ B .count → refused B 18 ≡ addCall bytes words rule L B
+        unfolding addCall
+        add-full l = rw (← its-code, z, ← f, y, le-leb (size B) (B .count) l)
+
+        pub add-searched : B .count < size B → {o : BookOutcome} → o ≡ searchingFor B bytes rule (searchedVerdict bytes words rule L) → o ≡ addCall bytes words rule L B
+        unfolding addCall
+        add-searched l s = rw (← its-code, z, ← f, y, lt-leb (size B) (B .count) l) s
+
+-- an outcome by its numbers, where it is told apart whether there was a search; and the pool then
+module _ {x o : BookOutcome} (e : x ≡ o) where
+  pub by-numbers : bookOutcome (x .number) (x .index) (x .verdict) (o .searched) (x .left) ≡ o
+  by-numbers = subst (λ (y : BookOutcome). bookOutcome (x .number) (x .index) (x .verdict) (y .searched) (x .left) ≡ y) e refl
+
+  pub pool-after : (before after : List ℕ) → PoolAfterAdd (x .searched) before after → PoolAfterAdd (o .searched) before after
+  pool-after before after p = subst (λ (y : BookOutcome). PoolAfterAdd (y .searched) before after) e p

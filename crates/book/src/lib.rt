@@ -1,0 +1,137 @@
+// The calls of a book of verdicts: lookup, and add, which searches and stores. A book is a lent buffer of entries and the count of the used ones.
+
+ghost use mathlib.Core.Path.{_≡_};
+ghost use Prim.Native.Nat.{_+_, _*_, _≤_};
+ghost use lib.ListN.{length};
+ghost use Rattle.rules.specs.Record.{positionOf};
+ghost use Rattle.game.specs.Words.{Holds};
+ghost use Rattle.searches.specs.Answers.{limitsOf};
+ghost use Rattle.searches.specs.Accepting.{Passed};
+ghost use Rattle.book.specs.Book.{bookOf, broken, lookupRefusal, lookupCall, addRefusal, searchedVerdict, searchingFor, addCall, PoolAfterAdd};
+ghost use Rattle.book.specs.Answers.{looked, added};
+use calls::LAST_RULE;
+use calls::refusals;
+use entries::ENTRY;
+use game::Game;
+use record::Loaded;
+use searches::SearchLimits;
+
+// The answer of lookup: the verdict, 1 True, 2 False, 0 not held; or the check that turned the call back.
+pub enum Found {
+    Verdict(u8),
+    Refused(u8),
+}
+
+// The answer of add: the verdict of a pair that was held; or a search's, 0 Unknown, and the count after it; or the check that turned the call back.
+pub enum Added {
+    Held(u8),
+    Searched(u8, usize),
+    Turned(u8),
+}
+
+// Check 17: the buffer is no whole number of entries, or the count is above them.
+fn broken(book: &[u8], count: usize) -> bool
+    ensures { λ r. ⌜ r ≡ broken (bookOf (now (book .entry)) count) ⌝ }
+{
+    if book.len() % ENTRY != 0 {
+        return true;
+    }
+    count > book.len() / ENTRY
+}
+
+// Lookup's checks, in their order: the number of the first that refuses, or 0.
+fn check_lookup(book: &[u8], count: usize, bytes: &[u8], rule: u64) -> u8
+    ensures { λ r. ⌜ r ≡ lookupRefusal (now (bytes .entry)) rule (bookOf (now (book .entry)) count) ⌝ }
+{
+    let loaded = record::load(bytes);
+    let checks = [
+        loaded.code,
+        refusals::refuses(10, rule > LAST_RULE),
+        refusals::refuses(17, broken(book, count)),
+    ];
+    refusals::first(&checks)
+}
+
+// Looks a pair up.
+pub fn lookup(book: &[u8], count: usize, bytes: &[u8], rule: u64) -> Found
+    ensures { λ r. ⌜ looked r (bookOf (now (book .entry)) count) ≡ lookupCall (now (bytes .entry)) rule (bookOf (now (book .entry)) count) ⌝ }
+{
+    let code = check_lookup(book, count, bytes, rule);
+    if code != 0 {
+        return Found::Refused(code);
+    }
+    Found::Verdict(entries::find(book, count, bytes, rule))
+}
+
+// Add's checks up to 17, in their order, of a pool with so many nodes: 0 and the position, or the number of the first that refuses.
+fn accept_add(
+    book: &[u8],
+    count: usize,
+    bytes: &[u8],
+    nodes: usize,
+    rule: u64,
+    l: SearchLimits,
+) -> Loaded
+    ensures { λ r. ⌜ r .code ≡ addRefusal (now (bytes .entry)) nodes rule (limitsOf l) (bookOf (now (book .entry)) count) ⌝ }
+    ensures position { λ r. ⌜ (r .code ≡ 0 → Holds (positionOf (now (bytes .entry))) (r .game .words) 0) ⌝ }
+{
+    let loaded = searches::accept(bytes, nodes, rule, l);
+    let game = loaded.game;
+    let checks = [loaded.code, refusals::refuses(17, broken(book, count))];
+    Loaded {
+        code: refusals::first(&checks),
+        game,
+    }
+}
+
+// Searches a position that passed every check, and stores a True or False as the entry at the count.
+fn search_and_store(
+    book: &mut [u8],
+    count: usize,
+    bytes: &[u8],
+    start: Game,
+    words: &mut [u32],
+    rule: u64,
+    l: SearchLimits,
+) -> Added
+    requires { ⌜ Passed (now bytes) (start .words) (length (now words)) rule (limitsOf l) × (count * 22 + 22 ≤ length (now book)) ⌝ }
+    ensures { λ r. ⌜ added r (now (book .exit)) count ≡ searchingFor (bookOf (now (book .entry)) count) (now (bytes .entry)) rule (searchedVerdict (now (bytes .entry)) (length (now (words .entry))) rule (limitsOf l)) ⌝ }
+    ensures pool { λ r. ⌜ PoolAfterAdd (added r (now (book .exit)) count .searched) (now (words .entry)) (now (words .exit)) ⌝ }
+{
+    let result = searches::search_accepted(start, words, rule, l);
+    let verdict = result.verdict;
+    let v = verdict.number() as u8;
+    if v == 0 {
+        return Added::Searched(0, count);
+    }
+    entries::store(book, count, bytes, rule, v);
+    Added::Searched(v, count + 1)
+}
+
+// Adds a pair: a verdict that is held is the answer; otherwise the pair is searched for, and a True or False stored.
+pub fn add(
+    book: &mut [u8],
+    count: usize,
+    bytes: &[u8],
+    words: &mut [u32],
+    rule: u64,
+    l: SearchLimits,
+) -> Added
+    ensures { λ r. ⌜ added r (now (book .exit)) count ≡ addCall (now (bytes .entry)) (length (now (words .entry))) rule (limitsOf l) (bookOf (now (book .entry)) count) ⌝ }
+    ensures pool { λ r. ⌜ PoolAfterAdd (added r (now (book .exit)) count .searched) (now (words .entry)) (now (words .exit)) ⌝ }
+{
+    let nodes = node_pool::capacity(words);
+    let loaded = accept_add(book, count, bytes, nodes, rule, l);
+    if loaded.code != 0 {
+        return Added::Turned(loaded.code);
+    }
+    let held = entries::find(book, count, bytes, rule);
+    if held != 0 {
+        return Added::Held(held);
+    }
+    if count >= book.len() / ENTRY {
+        return Added::Turned(18);
+    }
+    let start = loaded.game;
+    search_and_store(book, count, bytes, start, words, rule, l)
+}

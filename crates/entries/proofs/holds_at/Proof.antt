@@ -1,0 +1,40 @@
+-- `entries::holds_at` meets its contract: another record, or the last byte decides. Assumes nothing.
+use mathlib.Core.Path.{sym, _∙_}
+use Rattle.entries.specs.Scanning.{other-record, own-record}
+use borrow.Author.Needs.{needs}
+use Rattle.entries.proofs.holds_at.Statement.{statement}
+use Rattle.entries.proofs.holds_at.Tie as tie
+
+same-at-requires : tie.Need-same-at-requires
+same-at-requires c κs = search needs
+
+add-holds-rule : tie.Need-add-holds-rule
+add-holds-rule c = search needs
+
+shared-slice-read-holds-rule : tie.Need-shared-slice-read-holds-rule
+shared-slice-read-holds-rule c = search needs
+
+holds-rule-requires : tie.Need-holds-rule-requires
+holds-rule-requires c κs = search needs
+
+returns : tie.Need-returns
+returns c =
+    let same = c .before .before .before in
+    let start = same .before .before .before in
+    own-record (start .args .book .now) _ (start .args .at) _ (sym (c .before .before .if1 .taken) ∙ same .same-at .ensures) _ (c .holds-rule .ensures)
+
+returns-2 : tie.Need-returns-2
+returns-2 c =
+    let start = c .before .before .before .before in
+    other-record (start .args .book .now) _ (start .args .at) _ (sym (c .if1 .left) ∙ c .before .same-at .ensures)
+
+pub holds-at-spec : {M : Type 1} → statement M
+holds-at-spec =
+    tie.close
+    (tie.spec
+    same-at-requires
+    add-holds-rule
+    shared-slice-read-holds-rule
+    holds-rule-requires
+    returns
+    returns-2)

@@ -1,0 +1,36 @@
+-- `entries::same_word` meets its contract: the words are the same exactly if their bytes are. Assumes nothing.
+use mathlib.Core.Path.{ap₂}
+use native.Mathlib.Omega.{arith}
+use borrow.Author.Needs.{needs}
+use lib.Dec.{eqb}
+use Rattle.entries.specs.SameWords.{same-word}
+use Rattle.entries.proofs.same_word.Statement.{statement}
+use Rattle.entries.proofs.same_word.Tie as tie
+
+add-word-low-first : tie.Need-add-word-low-first
+add-word-low-first c = search needs
+
+word-low-first-requires : tie.Need-word-low-first-requires
+word-low-first-requires c κs = search needs
+
+word-low-first-requires-2 : tie.Need-word-low-first-requires-2
+word-low-first-requires-2 c κs = search needs
+
+returns : tie.Need-returns
+returns c =
+    let start = c .before .before .before .before in
+    same-word
+    (start .args .book .now)
+    (start .args .at)
+    (start .args .bytes .now)
+    (start .pre .0)
+    (start .pre .1)
+    (λ i. omega (arith, c .before .before .before .shared-slice-known .given i))
+    (λ i. omega (arith, c .before .before .shared-slice-known2 .given i))
+    (start .args .k)
+    (start .pre .2)
+    _
+    (ap₂ eqb (c .before .word-low-first .ensures) (c .word-low-first2 .ensures))
+
+pub same-word-spec : {M : Type 1} → statement M
+same-word-spec = tie.close (tie.spec add-word-low-first word-low-first-requires word-low-first-requires-2 returns)

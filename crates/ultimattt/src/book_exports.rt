@@ -1,0 +1,90 @@
+// The calls of the book of verdicts as C has them.
+
+ghost use mathlib.Core.Path.{_≡_};
+ghost use mathlib.Core.Bool.{false};
+ghost use lib.ListN.{length};
+ghost use Rattle.searches.specs.Searches.{limits};
+ghost use Rattle.book.specs.Book.{bookOf, bookOutcome, lookupCall, addCall, PoolAfterAdd};
+use book::Added;
+use book::Found;
+use searches::SearchLimits;
+
+// The answer of lookup as C has it: code is 0 or the refusal's number; index is 0; verdict is 1 for True, 2 for False, 0 if the pair is not held and with a
+// refusal.
+#[repr(C)]
+pub struct LookupAnswer {
+    pub code: u32,
+    pub index: u64,
+    pub verdict: u32,
+}
+
+#[no_mangle]
+pub extern "C" fn uttt_book_lookup(book: &[u8], count: u64, bytes: &[u8], rule: u64) -> LookupAnswer
+    ensures { λ r. ⌜ bookOutcome (r .code) (r .index) (r .verdict) false (bookOf (now (book .entry)) count) ≡ lookupCall (now (bytes .entry)) rule (bookOf (now (book .entry)) count) ⌝ }
+{
+    let answer = book::lookup(book, count as usize, bytes, rule);
+    match answer {
+        Found::Verdict(v) => LookupAnswer {
+            code: 0,
+            index: 0,
+            verdict: v as u32,
+        },
+        Found::Refused(n) => LookupAnswer {
+            code: n as u32,
+            index: 0,
+            verdict: 0,
+        },
+    }
+}
+
+// The answer of add as C has it: code is 0 or the refusal's number; index is 0; verdict is 1 for True, 2 for False, 0 for Unknown and with a refusal; count is
+// the count of used entries afterwards, with a refusal the one that came in.
+#[repr(C)]
+pub struct AddAnswer {
+    pub code: u32,
+    pub index: u64,
+    pub verdict: u32,
+    pub count: u64,
+}
+
+#[no_mangle]
+pub extern "C" fn uttt_book_add(
+    book: &mut [u8],
+    count: u64,
+    bytes: &[u8],
+    words: &mut [u32],
+    rule: u64,
+    limit: u64,
+    budget: u64,
+    interval: u64,
+) -> AddAnswer
+    ensures { λ r. ⌜ (let o = addCall (now (bytes .entry)) (length (now (words .entry))) rule (limits limit budget interval) (bookOf (now (book .entry)) count) in bookOutcome (r .code) (r .index) (r .verdict) (o .searched) (bookOf (now (book .exit)) (r .count)) ≡ o) ⌝ }
+    ensures pool { λ r. ⌜ PoolAfterAdd (addCall (now (bytes .entry)) (length (now (words .entry))) rule (limits limit budget interval) (bookOf (now (book .entry)) count) .searched) (now (words .entry)) (now (words .exit)) ⌝ }
+{
+    let l = SearchLimits {
+        limit,
+        budget,
+        interval,
+    };
+    let answer = book::add(book, count as usize, bytes, words, rule, l);
+    match answer {
+        Added::Held(v) => AddAnswer {
+            code: 0,
+            index: 0,
+            verdict: v as u32,
+            count,
+        },
+        Added::Searched(v, after) => AddAnswer {
+            code: 0,
+            index: 0,
+            verdict: v as u32,
+            count: after as u64,
+        },
+        Added::Turned(n) => AddAnswer {
+            code: n as u32,
+            index: 0,
+            verdict: 0,
+            count,
+        },
+    }
+}
