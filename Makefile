@@ -12,11 +12,12 @@ FUZZ_CALLS ?= 100000
 FUZZ_SECONDS ?= 60
 ROUNDS ?= 5
 LOAD_ROUNDS ?= 25
+LOOKUP_ROUNDS ?= 101
 CARGO = cargo
 BUILD_IN = $(CARGO) build --manifest-path harness/Cargo.toml --offline --locked -j $(JOBS)
 BUILD = $(BUILD_IN) --release
 
-.PHONY: test judge library uttt answers oracle-test fuzz compare bench bench-loads bindings-test examples
+.PHONY: test judge library uttt answers oracle-test fuzz compare bench bench-loads bench-lookups bindings-test examples
 
 # Every crate proved from nothing, every must-fail edit refused, every program's output as stored. Nothing is printed after rt's last line.
 test:
@@ -73,6 +74,11 @@ bench: library
 bench-loads: $(LOAD_BENCH)
 	$(BUILD_IN) --profile speed -p loads
 	harness/target/speed/loads $(LOAD_ROUNDS)
+
+# Lookups in books of verdicts beside a plain loop in C, timed: the tables of lookups in docs/SPEED.md.
+bench-lookups: library
+	$(BUILD_IN) --profile speed -p lookups
+	harness/target/speed/lookups $(LOOKUP_ROUNDS)
 
 # The Rust wrapper's own tests, over the library.
 bindings-test: library

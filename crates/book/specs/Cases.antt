@@ -1,6 +1,5 @@
 -- Books of MANUAL, Positions to try, and ours, computed from the definitions. Rests on Lists, on plain's Cases for the records E, W and D and their searches.
 use mathlib.Core.Path.{_≡_, refl, ap, _∙_}
-use mathlib.Core.Bool.{Bool, true, false}
 use mathlib.Core.List.{List, [], _∷_, _++_}
 use Prim.Native.Nat.{ℕ}
 use lib.ListN.{replicate}
@@ -12,7 +11,7 @@ use Rattle.searches.specs.Searches.{Limits, searchRefusal}
 use Rattle.searches.specs.StepThree.{pool, judging}
 use Rattle.entries.specs.Entries.{holdsRule, holdsPair, find}
 use Rattle.book.specs.Book.{Book, bookOf, BookOutcome, refused, holding, searching, lookupRefusal, lookupCall, addRefusal, addCall}
-use Rattle.book.specs.Lists.{BookCall, Lookup, Add, afterCalls}
+use Rattle.book.specs.Lists.{Lookup, Add, afterCalls}
 use Rattle.book.specs.Changes.{add-by-search}
 
 -- So many bytes that are no entry; an entry's bytes.

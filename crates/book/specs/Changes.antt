@@ -1,13 +1,13 @@
 -- What a call makes of the used entries: nothing, or one more, of a pair that was not held, with its value. Rests on Lists, Passing and the machine's theorem.
 use mathlib.Core.Path.{_≡_, refl, ap, _∙_}
-use mathlib.Core.Bool.{Bool, true, false}
+use mathlib.Core.Bool.{true, false}
 use mathlib.Core.List.{List, _∷_, _++_}
 use mathlib.Core.Logic.{_⊎_, inl, inr}
 use Prim.Native.Nat.{ℕ, zero, suc, _+_, _*_, _<_}
 use native.Mathlib.Omega.{arith}
 use borrow.Author.Tests.{leb-false}
 use lib.Dec.{leb}
-use lib.ListN.{length, take, drop}
+use lib.ListN.{take, drop}
 use Rattle.rules.specs.Refusals.{refuses}
 use Rattle.rules.specs.RefusalLaws.{passes-check}
 use Rattle.machine.specs.Machine.{Result, Verdict, True, False, Unknown}

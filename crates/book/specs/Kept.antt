@@ -3,20 +3,18 @@
 use mathlib.Core.Path.{_≡_, refl, sym, ap, _∙_, subst}
 use mathlib.Core.Bool.{Bool, true, false, cond}
 use mathlib.Core.List.{List, [], _∷_}
-use mathlib.Core.Logic.{_⊎_, inl, inr}
+use mathlib.Core.Logic.{inl, inr}
 use Prim.Native.Nat.{ℕ, zero, suc}
-use native.Mathlib.Omega.{arith}
-use Rattle.rules.specs.Record.{refusal}
 use Rattle.plain.specs.Plain.{recordValue}
 use Rattle.searches.specs.Searches.{Limits}
-use Rattle.entries.specs.Entries.{Entry, ruleBits, verdictBits, find, newEntry, storing}
+use Rattle.entries.specs.Entries.{Entry, ruleBits, verdictBits, find, newEntry}
 use Rattle.entries.specs.Buffers.{All, all-storing}
-use Rattle.entries.specs.Finding.{IsVerdict, verdict-few, Held, new-rule, new-verdict, find-of, find-still, find-stored}
-use Rattle.book.specs.Book.{Book, BookOutcome, used, holding, searchedVerdict, storedIn, searchingFor, lookupCall, addCall}
+use Rattle.entries.specs.Finding.{IsVerdict, verdict-few, new-rule, new-verdict, find-of, find-still, find-stored}
+use Rattle.book.specs.Book.{Book, BookOutcome, used, holding, searchedVerdict, searchingFor, lookupCall, addCall}
 use Rattle.book.specs.Lists.{BookCall, Lookup, Add, outcomeOf, afterCalls, emptyBook}
 use Rattle.book.specs.BookStatement.{valueNumber, BookStatement}
 use Rattle.book.specs.Passing.{Fits, LookupPassed, passes-lookup, record-length, used-stored, fits-stored}
-use Rattle.book.specs.Changes.{search-value, Searches, add-ways, lookup-ways, Stored, Step, changed, as-it-was}
+use Rattle.book.specs.Changes.{search-value, Searches, add-ways, lookup-ways, Step, changed, as-it-was}
 
 value-verdict : (bytes : List ℕ) (rule : ℕ) → IsVerdict (valueNumber bytes rule)
 value-verdict bytes rule = go (recordValue rule bytes)

@@ -1,17 +1,17 @@
 -- What a call that passes its checks has passed, and what storing makes of a book that passes check 17. Rests on Book and on the laws of the entries and of
 -- checks.
-use mathlib.Core.Path.{_≡_, refl, sym, ap, _∙_}
-use mathlib.Core.Bool.{Bool, true, false, not, _||_}
+use mathlib.Core.Path.{_≡_, sym, ap, _∙_}
+use mathlib.Core.Bool.{false, not}
 use mathlib.Core.List.{List, [], _∷_}
-use Prim.Native.Nat.{ℕ, zero, suc, _+_, _*_, _/_, _%_, _≤_, _<_}
+use Prim.Native.Nat.{ℕ, suc, _*_, _%_, _≤_, _<_}
 use native.Mathlib.Omega.{arith}
 use borrow.Author.Tests.{eqb-true, ltb-false, le-ltb, not-false}
 use lib.Dec.{eqb, ltb}
 use lib.ListN.{length, drop, length-append}
 use Rattle.rules.specs.Record.{refusal}
 use Rattle.rules.specs.Checks.{loads}
-use Rattle.rules.specs.Refusals.{refuses, firstRefusal}
-use Rattle.rules.specs.RefusalLaws.{none-refuses, rest-refuses, last-refuses, passes-check}
+use Rattle.rules.specs.Refusals.{firstRefusal}
+use Rattle.rules.specs.RefusalLaws.{none-refuses, passes-check}
 use Rattle.rules.specs.Tests.{both-false}
 use Rattle.calls.specs.Calls.{lastRule}
 use Rattle.calls.specs.Refusing.{passes-test}
@@ -19,7 +19,7 @@ use Rattle.searches.specs.Searches.{Limits, nodes, searchRefusal}
 use Rattle.searches.specs.Accepting.{Accepts, accepts}
 use Rattle.entries.specs.Entries.{Entry, entries, withEntries, newEntry, storing}
 use Rattle.entries.specs.Buffers.{All, Whole, all-storing, read-back, length-withEntries, length-entries, entries-whole}
-use Rattle.book.specs.Book.{Book, bookOf, size, used, broken, lookupRefusal, addRefusal, storedIn}
+use Rattle.book.specs.Book.{Book, size, used, broken, lookupRefusal, addRefusal, storedIn}
 
 -- check 17 is passed
 pub record Fits (B : Book) : Type 0 where

@@ -1,12 +1,12 @@
 -- The calls by the check that decides, as the code goes through them. Rests on Book, Answers and Passing.
 use mathlib.Core.Path.{_≡_, refl, sym, subst, _∙_}
-use mathlib.Core.Bool.{Bool, true, false}
+use mathlib.Core.Bool.{Bool, true}
 use mathlib.Core.List.{List, [], _∷_}
 use Prim.Native.Nat.{ℕ, zero, suc, _+_, _*_, _/_, _%_, _≤_, _<_}
 use native.Mathlib.Omega.{arith}
 use native.Mathlib.Numerals.{add-one}
-use borrow.Author.Tests.{eq-eqb, ne-eqb, le-leb, lt-leb}
-use lib.Dec.{eqb, leb, ltb}
+use borrow.Author.Tests.{ne-eqb, le-leb, lt-leb}
+use lib.Dec.{ltb}
 use lib.ListN.{length}
 use Rattle.rules.specs.Record.{positionOf, refusal}
 use Rattle.rules.specs.Refusals.{refuses, firstRefusal}
@@ -20,7 +20,7 @@ use Rattle.searches.specs.Searches.{Limits, nodes, searchRefusal}
 use Rattle.searches.specs.Accepting.{Passed}
 use Rattle.entries.specs.Entries.{withEntries, find, newEntry, storing}
 use Rattle.book.specs.Book.{Book, bookOf, BookOutcome, bookOutcome, size, used, broken, refused, holding, searching, lookupRefusal, lookupCall, addRefusal, searchedVerdict, searchingFor, addCall, PoolAfterAdd}
-use Rattle.book.specs.Passing.{Fits, LookupPassed, lookup-passed, AddPassed, add-passed, record-length}
+use Rattle.book.specs.Passing.{Fits, lookup-passed, AddPassed, add-passed, record-length}
 
 -- check 17
 module _ (bytes : List ℕ) (count : ℕ) where

@@ -1,4 +1,4 @@
--- The entries of a book of verdicts (MANUAL, Book): what their 22 bytes say, which of them answers for a pair of a record and a rule, and a buffer with
+-- The entries of a book of verdicts (MANUAL, Book of verdicts): what their 22 bytes say, which of them answers for a pair of a record and a rule, and a buffer with
 -- entries at its front. Rests on the library's numbers and lists alone.
 use mathlib.Core.Bool.{Bool, true, false, cond, _&&_, _||_}
 use mathlib.Core.List.{List, [], _∷_, _++_}

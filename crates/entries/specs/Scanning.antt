@@ -1,15 +1,15 @@
 -- The scan of a book, as its loop goes: what the tests of an entry tell, and that the entries that are left decide what is found. Rests on Entries.
 use mathlib.Core.Path.{_≡_, refl, sym, ap, _∙_}
-use mathlib.Core.Bool.{Bool, true, false, cond, _&&_, _||_, and-false}
-use mathlib.Core.List.{List, []}
-use Prim.Native.Nat.{ℕ, zero, suc, _+_, _*_, _-_, _/_, _%_, _≤_, _<_}
+use mathlib.Core.Bool.{Bool, true, false, cond, _||_}
+use mathlib.Core.List.{List}
+use Prim.Native.Nat.{ℕ, zero, suc, _+_, _*_, _-_, _≤_, _<_}
 use native.Mathlib.Omega.{arith}
 use native.Mathlib.Numerals.{add-one}
 use borrow.Author.Tests.{eq-eqb, ne-eqb}
 use lib.Dec.{eqb}
-use lib.ListN.{length, take, drop, getD, length-drop}
-use lib.Seq.{drop-cons, drop-length, drop-drop, getD-take, getD-drop, length-take-le}
-use Rattle.entries.specs.Entries.{Entry, entryOf, entries, ruleBits, verdictBits, hasVerdict, sameBytes, holdsRule, holdsPair, firstVerdict, find}
+use lib.ListN.{take, drop, getD}
+use lib.Seq.{drop-drop, getD-drop}
+use Rattle.entries.specs.Entries.{Entry, entryOf, entries, ruleBits, verdictBits, hasVerdict, sameBytes, holdsRule, holdsPair, find}
 
 -- the record bytes of the entry at a place
 abbrev pub recordAt : (book : List ℕ) (at : ℕ) → List ℕ

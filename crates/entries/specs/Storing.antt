@@ -1,12 +1,12 @@
 -- The loop that writes a new entry. Rests on Entries and Buffers.
 use mathlib.Core.Path.{_≡_, refl, sym, ap, _∙_}
-use mathlib.Core.List.{List, [], _∷_, _++_, append-assoc}
-use Prim.Native.Nat.{ℕ, zero, suc, _+_, _*_, _≤_, _<_}
+use mathlib.Core.List.{List, _∷_, _++_, append-assoc}
+use Prim.Native.Nat.{ℕ, suc, _+_, _*_, _≤_, _<_}
 use native.Mathlib.Omega.{arith}
 use native.Mathlib.Numerals.{add-one}
 use lib.ListN.{length, take, drop, getD, set, length-set}
 use lib.Seq.{paste, paste-zero, paste-suc, length-paste-head, drop-cons, set-at, take-all}
-use Rattle.entries.specs.Entries.{Entry, entries, withEntries, newEntry, storing}
+use Rattle.entries.specs.Entries.{entries, withEntries, newEntry, storing}
 use Rattle.entries.specs.Buffers.{stored-bytes}
 
 -- the first j bytes of a record are copied to a place of the book

@@ -2,3 +2,4 @@ pub mod Words
 pub mod Counted
 pub mod Compared
 pub mod Pools
+pub mod Lent

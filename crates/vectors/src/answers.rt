@@ -82,7 +82,7 @@ fn read_answer(s: &[u8], at: usize, form: Form, want: &mut [u8]) -> Stored {
     given(s, next, 21, count, want)
 }
 
-// The answer after a place: a refusal; or a value, 1 for True and 2 for False.
+// The answer after a place: a refusal; or a value, 1 for True and 2 for False; or that the book holds none, 0.
 fn read_value(s: &[u8], at: usize) -> Stored {
     let w = line::next_word(s, at);
     if line::is_word(s, w, b"refused") {
@@ -93,6 +93,9 @@ fn read_value(s: &[u8], at: usize) -> Stored {
     }
     if line::is_word(s, w, b"False") {
         return ended(s, w.end, 0, 0, 2);
+    }
+    if line::is_word(s, w, b"notheld") {
+        return ended(s, w.end, 0, 0, 0);
     }
     Stored::Unreadable
 }

@@ -32,7 +32,7 @@ pub fn numbers(r: ResultFields) -> [u64; 9] {
 }
 
 // The verdict that the next word names.
-fn read_verdict(s: &[u8], at: usize) -> Number {
+pub fn read_verdict(s: &[u8], at: usize) -> Number {
     let w = line::next_word(s, at);
     let end = w.end;
     if line::is_word(s, w, b"Unknown") {

@@ -1,20 +1,27 @@
 // Runs a stored list of the oracle's answers over the library. Standard input has lines `CALL => ANSWER`.
 // Each line whose answer differs or that can't be read is named; in the end come the number of lines and how many agreed.
 mod answers;
+mod books;
 mod calls;
 mod fields;
 mod line;
 mod searches;
 
 ghost use Prim.Native.Nat.{_≤_};
+ghost use mathlib.Core.Path.{_≡_};
+ghost use lib.ListN.{length};
 use answers::Outcome;
+use books::Bytes;
 use libc::STDIN_FILENO;
 use libc::STDOUT_FILENO;
 use line::Count;
 
-// Runs a line. It starts with the call's name and a record, or a sheet.
-fn run_line(s: &[u8]) -> Outcome {
+// Runs a line. It starts with `book`, or with the call's name and a record, or a sheet.
+fn run_line(s: &[u8], bytes: &mut Bytes, length: &mut usize, count: &mut u64) -> Outcome {
     let name = line::first_word(s);
+    if line::is_word(s, name, b"book") {
+        return books::run(s, name.end, bytes, length, count);
+    }
     let mut record = [0u8; 512];
     let Count::Bytes(n, place) = line::read_bytes(s, name.end, &mut record) else {
         return Outcome::Unreadable;
@@ -39,15 +46,21 @@ fn report(number: u64, outcome: Outcome) -> u64
     0
 }
 
-// Runs every line of the list.
+// Runs every line of the list. The book that is kept between them is at first one without bytes.
 fn run_list(text: &[u8]) {
+    let mut bytes = books::zeros();
+    let mut length: usize = 0;
+    let mut count: u64 = 0;
     let mut at: usize = 0;
     let mut lines: u64 = 0;
     let mut agreed: u64 = 0;
     while at < text.len() {
         let end = line::find(text, at, b'\n');
         lines += 1;
-        agreed += report(lines, run_line(&text[at..end]));
+        agreed += report(
+            lines,
+            run_line(&text[at..end], &mut bytes, &mut length, &mut count),
+        );
         at = end + 1;
     }
     io::print_decimal(STDOUT_FILENO, lines);
@@ -56,9 +69,16 @@ fn run_list(text: &[u8]) {
     io::write_all(STDOUT_FILENO, b" agreed\n");
 }
 
+// What the list is read into.
+fn fresh_buffer() -> [u8; 524288]
+    ensures { λ r. ⌜ 524288 ≡ length r ⌝ }
+{
+    [0u8; 524288]
+}
+
 // A list that fills the buffer may go on after it: none of it is run.
 fn main() {
-    let mut buffer = [0u8; 524288];
+    let mut buffer = fresh_buffer();
     let n = io::read_full(STDIN_FILENO, &mut buffer);
     if n == buffer.len() {
         io::write_all(STDOUT_FILENO, b"the list has more than 524287 bytes\n");

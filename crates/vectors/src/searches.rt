@@ -1,7 +1,7 @@
-// The calls that lend a pool, search and full verdict: each reads the rest of its line, from the place after the record on, and runs the call.
-ghost use Prim.Native.Nat.{_≤_};
+// The calls that lend a pool and no book, search and full verdict: each reads the rest of its line, from the place after the record on, and runs the call.
 ghost use mathlib.Core.Path.{_≡_};
 ghost use mathlib.Core.Bool.{true};
+ghost use Rattle.vectors.specs.Lent.{Lendable};
 ghost use Rattle.vectors.specs.declared.answers.Outcome.the-variants.{Agreed};
 use crate::answers;
 use crate::fields;
@@ -16,22 +16,24 @@ use ultimattt::exports::SearchAnswer;
 // The most nodes that a pool is lent with: `fields::fresh_pool` has five words for each, and four more.
 const MOST_NODES: u64 = 4096;
 
-// The numbers that both calls have, and the place after the arrow that follows them.
-struct Settings {
-    nodes: u64,
-    limit: u64,
-    budget: u64,
-    interval: u64,
-    place: usize,
+// How many words of a pool are lent, the limits of a search, and the place after the arrow that follows them.
+pub struct Settings {
+    pub words: usize,
+    pub limit: u64,
+    pub budget: u64,
+    pub interval: u64,
+    pub place: usize,
 }
 
-enum Reading {
+pub enum Reading {
     Read(Settings),
     Unreadable,
 }
 
-// `POOL-NODES LIMIT BUDGET INTERVAL =>`
-fn read_settings(s: &[u8], at: usize) -> Reading {
+// `POOL-NODES LIMIT BUDGET INTERVAL =>`. Of a pool five words for each node are lent, and up to four more.
+pub fn read_settings(s: &[u8], at: usize) -> Reading
+    ensures { λ r. ⌜ Lendable r ⌝ }
+{
     let Number::Value(nodes, after_nodes) = line::read_number(s, at) else {
         return Reading::Unreadable;
     };
@@ -46,9 +48,12 @@ fn read_settings(s: &[u8], at: usize) -> Reading {
     };
     let arrow = line::next_word(s, after_interval);
     let place = arrow.end;
+    if MOST_NODES < nodes {
+        return Reading::Unreadable;
+    }
     if line::is_word(s, arrow, b"=>") {
         return Reading::Read(Settings {
-            nodes,
+            words: (nodes * 5 + nodes % 5) as usize,
             limit,
             budget,
             interval,
@@ -59,7 +64,7 @@ fn read_settings(s: &[u8], at: usize) -> Reading {
 }
 
 // An outcome, if the rest agreed too.
-fn if_also(outcome: Outcome, rest: bool) -> Outcome
+pub fn if_also(outcome: Outcome, rest: bool) -> Outcome
     ensures { λ r. ⌜ (r ≡ Agreed → (outcome ≡ Agreed) × (rest ≡ true)) × (outcome ≡ Agreed → rest ≡ true → r ≡ Agreed) ⌝ }
 {
     match outcome {
@@ -75,11 +80,9 @@ fn if_also(outcome: Outcome, rest: bool) -> Outcome
     }
 }
 
-// The first place of a pool that a call may not write, by its code.
-fn closed_from(code: u32, nodes: usize) -> usize
-    requires { ⌜ nodes ≤ 4096 ⌝ }
-{
-    if code == 0 { nodes * 5 } else { 0 }
+// The first word of a pool that a call may not write, by its code: with an answer the first past the nodes, with a refusal the first of all.
+pub fn closed_from(code: u32, words: usize) -> usize {
+    if code == 0 { words / 5 * 5 } else { 0 }
 }
 
 // The answer after a place: a refusal, or nine fields, which are put into want.
@@ -112,15 +115,11 @@ pub fn search(s: &[u8], at: usize, record: &[u8]) -> Outcome {
     let Reading::Read(x) = read_settings(s, next) else {
         return Outcome::Unreadable;
     };
-    if MOST_NODES < x.nodes {
-        return Outcome::Unreadable;
-    }
-    let nodes = x.nodes as usize;
-    let length = nodes * 5 + nodes % 5;
+    let words = x.words;
     let mut pool = fields::fresh_pool();
     let got = ultimattt::exports::uttt_search(
         record,
-        &mut pool[..length],
+        &mut pool[..words],
         rule,
         x.limit,
         x.budget,
@@ -129,7 +128,7 @@ pub fn search(s: &[u8], at: usize, record: &[u8]) -> Outcome {
     let outcome = settle_search(s, x.place, got);
     if_also(
         outcome,
-        fields::untouched(&pool, closed_from(got.code, nodes)),
+        fields::untouched(&pool, closed_from(got.code, words)),
     )
 }
 
@@ -195,15 +194,11 @@ pub fn full(s: &[u8], at: usize, record: &[u8]) -> Outcome {
     let Reading::Read(x) = read_settings(s, at) else {
         return Outcome::Unreadable;
     };
-    if MOST_NODES < x.nodes {
-        return Outcome::Unreadable;
-    }
-    let nodes = x.nodes as usize;
-    let length = nodes * 5 + nodes % 5;
+    let words = x.words;
     let mut pool = fields::fresh_pool();
     let got = ultimattt::exports::uttt_full_verdict(
         record,
-        &mut pool[..length],
+        &mut pool[..words],
         x.limit,
         x.budget,
         x.interval,
@@ -211,6 +206,6 @@ pub fn full(s: &[u8], at: usize, record: &[u8]) -> Outcome {
     let outcome = settle_full(s, x.place, got);
     if_also(
         outcome,
-        fields::untouched(&pool, closed_from(got.code, nodes)),
+        fields::untouched(&pool, closed_from(got.code, words)),
     )
 }

@@ -2,11 +2,13 @@
 //! as lines of text, and the table of refusals (MANUAL, Turned back) as plain code. Nothing here comes from
 //! the original, and nothing here calls the proved library.
 
+pub mod book;
 pub mod hex;
 pub mod line;
 pub mod record;
 pub mod table;
 pub mod tool;
 
+pub use book::{Book, BookCall};
 pub use line::{Answer, Call, Fields, FullVerdict, Kind};
 pub use record::Position;

@@ -7,11 +7,13 @@
 //! full RECORD POOL-NODES LIMIT BUDGET INTERVAL          VERDICT | nine fields | nine fields
 //! referee RECORD RULE                                   True or False
 //! sheets FIRST SECOND [OUTPUT-LENGTH]                   COUNT RECORD
+//! book ...                                              as `book` has them
 //!                                                       refused NUMBER INDEX
 //! ```
 //!
 //! Records, moves and sheets are hexadecimal, `-` for none. The output length is that of the lent buffer.
 
+use crate::book::{self, Book, BookCall};
 use crate::hex;
 use crate::table::{MOVES_ROOM, RECORD_ROOM};
 use std::fmt;
@@ -27,6 +29,7 @@ pub enum Call {
     Full { record: Vec<u8>, pool: u64, limit: u64, budget: u64, interval: u64 },
     Referee { record: Vec<u8>, rule: u64 },
     Sheets { first: Vec<u8>, second: Vec<u8>, output: usize },
+    Book(BookCall),
 }
 
 /// Which call it is.
@@ -38,10 +41,12 @@ pub enum Kind {
     Full,
     Referee,
     Sheets,
+    Book,
 }
 
 impl Kind {
-    pub const ALL: [Kind; 6] = [Kind::Moves, Kind::Replay, Kind::Search, Kind::Full, Kind::Referee, Kind::Sheets];
+    pub const ALL: [Kind; 7] =
+        [Kind::Moves, Kind::Replay, Kind::Search, Kind::Full, Kind::Referee, Kind::Sheets, Kind::Book];
 
     /// The word that a call's line starts with.
     pub fn name(self) -> &'static str {
@@ -52,6 +57,7 @@ impl Kind {
             Kind::Full => "full",
             Kind::Referee => "referee",
             Kind::Sheets => "sheets",
+            Kind::Book => "book",
         }
     }
 
@@ -69,6 +75,7 @@ impl Kind {
             Kind::Full => "RECORD POOL-NODES LIMIT BUDGET INTERVAL",
             Kind::Referee => "RECORD RULE",
             Kind::Sheets => "FIRST SECOND [OUTPUT-LENGTH]",
+            Kind::Book => book::TAKES,
         }
     }
 }
@@ -82,6 +89,7 @@ impl Call {
             Call::Full { .. } => Kind::Full,
             Call::Referee { .. } => Kind::Referee,
             Call::Sheets { .. } => Kind::Sheets,
+            Call::Book(_) => Kind::Book,
         }
     }
 }
@@ -102,9 +110,9 @@ pub struct Fields {
 
 #[derive(Clone, Copy, Debug, PartialEq, Eq)]
 pub enum Verdict {
-    Unknown,
-    True,
-    False,
+    Unknown = 0,
+    True = 1,
+    False = 2,
 }
 
 /// What the searches under rules 1 and 2 tell together.
@@ -144,6 +152,16 @@ pub enum Answer {
         count: u64,
         record: Vec<u8>,
     },
+    /// A book was set.
+    Ok,
+    Book(Book),
+    /// The verdict of an add, and the count after it.
+    Added {
+        verdict: Verdict,
+        count: u64,
+    },
+    /// The verdict that a lookup found, if the pair is held.
+    Found(Option<Verdict>),
     Refused {
         number: u32,
         index: u64,
@@ -184,6 +202,11 @@ impl fmt::Display for Answer {
             Answer::Full(verdict, first, second) => write!(f, "{} | {} | {}", verdict.name(), first, second),
             Answer::Value(value) => write!(f, "{}", if *value { "True" } else { "False" }),
             Answer::Opening { count, record } => write!(f, "{} {}", count, hex::show(record)),
+            Answer::Ok => write!(f, "ok"),
+            Answer::Book(book) => write!(f, "{}", book),
+            Answer::Added { verdict, count } => write!(f, "{:?} {}", verdict, count),
+            Answer::Found(Some(verdict)) => write!(f, "{:?}", verdict),
+            Answer::Found(None) => write!(f, "notheld"),
             Answer::Refused { number, index } => write!(f, "refused {} {}", number, index),
         }
     }
@@ -211,6 +234,7 @@ impl fmt::Display for Call {
                 write!(f, "sheets {} {}", hex::show(first), hex::show(second))?;
                 write_output(f, *output, RECORD_ROOM)
             }
+            Call::Book(call) => write!(f, "book {}", call),
         }
     }
 }
@@ -259,6 +283,7 @@ pub fn parse(line: &str) -> Result<Call, String> {
             second: bytes("second sheet", second)?,
             output: output(rest, RECORD_ROOM)?,
         }),
+        ["book", rest @ ..] => book::parse(rest).map(Call::Book),
         words => Err(no_call(words)),
     }
 }
@@ -272,11 +297,11 @@ fn no_call(words: &[&str]) -> String {
     }
 }
 
-fn bytes(what: &str, text: &str) -> Result<Vec<u8>, String> {
+pub(crate) fn bytes(what: &str, text: &str) -> Result<Vec<u8>, String> {
     hex::read(text).ok_or_else(|| format!("{}: {:?} is not whole bytes in hexadecimal, nor -", what, text))
 }
 
-fn number<T: std::str::FromStr>(what: &str, text: &str) -> Result<T, String> {
+pub(crate) fn number<T: std::str::FromStr>(what: &str, text: &str) -> Result<T, String> {
     text.parse().map_err(|_| format!("{}: {:?} is not a number of 64 bits", what, text))
 }
 

@@ -1,22 +1,20 @@
 //! Runs the proved library and the oracle on the same calls and compares every answer, and the
-//! bytes and words that must stay untouched. A difference prints the smallest call found that shows
-//! it, and fails.
+//! bytes and words that must stay untouched. The lines of a book are run as lists, each side with a book of its own.
+//! A difference prints the smallest call or list found that shows it, and fails.
 //!
 //! ```text
 //! compare [SEED [COUNT]]    the cases, then records that try every place, then COUNT calls at random
 //! ```
 
 mod shrink;
+mod sides;
+mod tally;
 
-use calls::{Answer, Call, Kind};
+use calls::{Call, Kind};
 use oracle::generate::{self, reading, Random};
-use oracle::Ending;
-use std::collections::BTreeMap;
+use sides::Sides;
 use std::process::ExitCode;
-use uttt::ours;
-
-/// A tally of answers by what they are, so that the run shows what it covered.
-type Tally = BTreeMap<String, u64>;
+use tally::Tally;
 
 fn main() -> ExitCode {
     let arguments: Vec<Option<u64>> = std::env::args().skip(1).map(|a| a.parse().ok()).collect();
@@ -36,68 +34,54 @@ fn main() -> ExitCode {
             tally.iter().for_each(|(kind, times)| println!("{:>9}  {}", times, kind));
             ExitCode::SUCCESS
         }
-        Some(call) => {
-            report(&shrink::smallest(call, differs));
+        Some(list) => {
+            report(&shrink::smallest(list, differs));
             ExitCode::FAILURE
         }
     }
 }
 
-/// The oracle's cases, then every record that tries loading place by place, then `count` calls at random.
-fn first_difference(seed: u64, count: u64, tally: &mut Tally) -> Option<Call> {
+/// The oracle's cases, then every record that tries loading place by place, then calls at random until there are
+/// `count` of them.
+fn first_difference(seed: u64, count: u64, tally: &mut Tally) -> Option<Vec<Call>> {
     let records = reading::records(&mut Random::new(seed));
-    let loads = records.iter().flat_map(|record| reading::calls_of(record));
+    let loads = records.iter().flat_map(|record| reading::lists_of(record));
     let mut random = Random::new(seed);
-    let generated = (0..count).map(|_| {
-        let kind = random.pick(&Kind::ALL);
-        generate::call(&mut random, kind)
+    let mut made = 0;
+    let generated = std::iter::from_fn(|| {
+        let list = (made < count).then(|| generate::any_list(&mut random, &Kind::ALL))?;
+        made += list.len() as u64;
+        Some(list)
     });
-    for call in oracle::cases::calls().chain(loads).chain(generated) {
-        let theirs = oracle::answer(&call);
-        *tally.entry(kind(&call, &theirs)).or_default() += 1;
-        if ours::answer(&call) != Ok(theirs) {
-            return Some(call);
+    oracle::cases::lists().into_iter().chain(loads).chain(generated).find(|list| differs_in(list, tally))
+}
+
+fn differs(list: &[Call]) -> bool {
+    differs_in(list, &mut Tally::new())
+}
+
+/// Whether a line of the list is answered otherwise. Lines up to that one are counted.
+fn differs_in(list: &[Call], tally: &mut Tally) -> bool {
+    let mut sides = Sides::default();
+    list.iter().any(|call| {
+        let (count, library, oracle) = (sides.count(), sides.library(call), sides.oracle(call));
+        *tally.entry(tally::kind(call, &oracle, count)).or_default() += 1;
+        library != Ok(oracle)
+    })
+}
+
+/// The lines up to the one that differs, and both answers to it.
+fn report(list: &[Call]) {
+    let mut sides = Sides::default();
+    for call in list {
+        let (library, oracle) = (sides.library(call), sides.oracle(call));
+        if library.as_ref() == Ok(&oracle) {
+            println!("    after: {} => {}", call, oracle);
+            continue;
         }
-    }
-    None
-}
-
-fn differs(call: &Call) -> bool {
-    ours::answer(call) != Ok(oracle::answer(call))
-}
-
-fn kind(call: &Call, answer: &Answer) -> String {
-    let outcome = match answer {
-        Answer::Refused { number, .. } => format!("refused {:>2}", number),
-        Answer::Search(fields) => format!("{:?}, cause {}", fields.verdict, fields.cause),
-        Answer::Full(verdict, first, second) => {
-            format!("{}, causes {} and {}", verdict.name(), first.cause, second.cause)
-        }
-        Answer::Moves(moves) if moves.is_empty() => "none".to_string(),
-        Answer::Moves(_) | Answer::Record(_) => "answered".to_string(),
-        Answer::Value(_) => answer.to_string(),
-        Answer::Opening { .. } => how_it_ended(call),
-    };
-    format!("{:<7}  {}", call.kind().name(), outcome)
-}
-
-/// What ended the opening of two sheets.
-fn how_it_ended(call: &Call) -> String {
-    let Call::Sheets { first, second, .. } = call else { unreachable!("no other call has an opening") };
-    match oracle::ending(first, second) {
-        Ending::BothEnd => "both end".to_string(),
-        Ending::FirstEnds => "the first ends".to_string(),
-        Ending::SecondEnds => "the second ends".to_string(),
-        Ending::Difference => "they differ".to_string(),
-        Ending::Error(number) => format!("error {} on both", number),
-    }
-}
-
-fn report(call: &Call) {
-    println!("different: {}", call);
-    println!("   oracle: {}", oracle::answer(call));
-    match ours::answer(call) {
-        Ok(answer) => println!("  library: {}", answer),
-        Err(message) => println!("  library: {}", message),
+        println!("different: {}", call);
+        println!("   oracle: {}", oracle);
+        println!("  library: {}", library.map_or_else(|message| message, |answer| answer.to_string()));
+        return;
     }
 }

@@ -1,16 +1,27 @@
-//! Smaller calls, tried one after the other until none of them shows the difference any more.
+//! Smaller lists and calls, tried one after the other until none of them shows the difference any more.
 
+use calls::book::ENTRY;
 use calls::record::{Position, EMPTY, FREE_CHOICE, LENGTH};
 use calls::table::{MOVES_ROOM, RECORD_ROOM};
-use calls::Call;
+use calls::{Book, BookCall, Call};
 
-/// The smallest call found from `call` on for which `differs` holds, as it does for `call`.
-pub fn smallest(call: Call, differs: impl Fn(&Call) -> bool) -> Call {
-    let mut found = call;
-    while let Some(smaller) = smaller(&found).into_iter().find(|c| differs(c)) {
-        found = smaller;
+/// The smallest list found from `list` on for which `differs` holds, as it does for `list`.
+pub fn smallest(mut list: Vec<Call>, differs: impl Fn(&[Call]) -> bool) -> Vec<Call> {
+    loop {
+        let smaller = smaller_lists(&list).find(|list| differs(list));
+        let Some(smaller) = smaller else { return list };
+        list = smaller;
     }
-    found
+}
+
+/// The list without its second half or without a line, but never without its first, then with one call smaller.
+fn smaller_lists(list: &[Call]) -> impl Iterator<Item = Vec<Call>> + '_ {
+    let half = list.len().div_ceil(2);
+    let halved = (half < list.len()).then(|| list[..half].to_vec());
+    let dropped = (1..list.len()).rev().map(|at| without(list, at));
+    let with = |at: usize, call: Call| [&list[..at], &[call], &list[at + 1..]].concat();
+    let lines = (0..list.len()).flat_map(move |at| smaller(&list[at]).into_iter().map(move |call| with(at, call)));
+    halved.into_iter().chain(dropped).chain(lines)
 }
 
 /// Each is smaller: fewer bytes, fewer cells taken, plainer settings.
@@ -45,7 +56,39 @@ fn smaller(call: &Call) -> Vec<Call> {
             out
         }
         Call::Sheets { first, second, output } => sheets(first, second, *output),
+        Call::Book(line) => smaller_lines(line),
     }
+}
+
+/// A book with fewer entries, bytes or used entries; a lookup or an add as other calls are made smaller.
+fn smaller_lines(line: &BookCall) -> Vec<Call> {
+    match line {
+        BookCall::New { entries } => {
+            lower(*entries as u64).map(|n| Call::Book(BookCall::New { entries: n as usize })).collect()
+        }
+        BookCall::Set(book) => books(book).map(|book| Call::Book(BookCall::Set(book))).collect(),
+        BookCall::Dump => vec![],
+        BookCall::Lookup { record, rule } => {
+            records(record).map(|record| Call::Book(BookCall::Lookup { record, rule: *rule })).collect()
+        }
+        BookCall::Add { record, rule, pool, limit, budget, interval } => {
+            let rule = *rule;
+            searches(record, [*pool, *limit, *budget, *interval], |record, [pool, limit, budget, interval]| {
+                Call::Book(BookCall::Add { record, rule, pool, limit, budget, interval })
+            })
+        }
+    }
+}
+
+/// The book without one of its entries, used or not, without its last byte, or with a smaller count.
+fn books(book: &Book) -> impl Iterator<Item = Book> + '_ {
+    let with = |bytes: Vec<u8>, count: u64| Book { bytes, count };
+    let entries = (0..book.entries() as usize).rev().map(move |at| {
+        let bytes = [&book.bytes[..ENTRY * at], &book.bytes[ENTRY * (at + 1)..]].concat();
+        with(bytes, book.count - u64::from((at as u64) < book.count))
+    });
+    let shorter = book.bytes.split_last().map(|(_, rest)| with(rest.to_vec(), book.count));
+    entries.chain(shorter).chain(lower(book.count).map(move |count| with(book.bytes.clone(), count)))
 }
 
 /// Both sheets without the same move, then one of them with fewer moves, then the usual output.
@@ -82,9 +125,9 @@ fn fewer(moves: &[u8]) -> impl Iterator<Item = Vec<u8>> + '_ {
     halves.chain((0..moves.len()).rev().map(|at| without(moves, at)))
 }
 
-/// The moves without the one at `at`.
-fn without(moves: &[u8], at: usize) -> Vec<u8> {
-    [&moves[..at], &moves[at + 1..]].concat()
+/// The list without what stands at `at`.
+fn without<T: Clone>(list: &[T], at: usize) -> Vec<T> {
+    [&list[..at], &list[at + 1..]].concat()
 }
 
 /// The usual length, where it is another.

@@ -1,18 +1,20 @@
 //! What any answer must meet, whatever came in. Which refusal is due is asked of `calls::table`; that a result
 //! is the right one is the comparison's to see.
 
+use crate::books;
 use crate::run::Answered;
 use calls::record::{EMPTY, FREE_CHOICE, LENGTH, O, X};
 use calls::table::{self, Board, MOVES_ROOM, RECORD_ROOM};
-use calls::{Call, Position};
+use calls::{Book, Call, Position};
 
 const INFINITY: u64 = 2_147_483_648;
 const LARGEST_NUMBER: u64 = 4_294_967_295;
 /// No position has more legal moves.
 const MOST_MOVES: u64 = 81;
 
-pub fn check(call: &Call, a: &Answered) -> Result<(), String> {
-    let due = due(call);
+/// `book` is what a book's call was lent.
+pub fn check(call: &Call, book: &Book, a: &Answered) -> Result<(), String> {
+    let due = due(call, book);
     let bad_move = due.is_none() && matches!(call, Call::Replay { .. }) && (11..=15).contains(&a.code);
     if a.code != due.unwrap_or(0) && !bad_move {
         return Err(format!("code {} where {} is due", a.code, due.unwrap_or(0)));
@@ -24,7 +26,7 @@ pub fn check(call: &Call, a: &Answered) -> Result<(), String> {
         return Err(format!("code {} with a result, {:?}", a.code, a.numbers));
     }
     if a.code == 0 {
-        return result(call, a);
+        return result(call, book, a);
     }
     match call {
         Call::Replay { moves, .. } if bad_move => bad_index(moves, a),
@@ -32,17 +34,18 @@ pub fn check(call: &Call, a: &Answered) -> Result<(), String> {
     }
 }
 
-/// How many bytes of the output the answer has written.
+/// How many bytes of the output tell: those that the answer has written, all of a book.
 pub fn written(call: &Call, a: &Answered) -> usize {
     match call {
         Call::Moves { .. } if a.code == 0 => a.numbers[0] as usize,
         Call::Replay { .. } | Call::Sheets { .. } if a.code == 0 => LENGTH,
+        Call::Book(_) => a.output.len(),
         _ => 0,
     }
 }
 
-/// The refusal of checks 1 to 10 and 16, if one is due.
-fn due(call: &Call) -> Option<u32> {
+/// The refusal of checks 1 to 10 and 16 to 18, if one is due.
+fn due(call: &Call, book: &Book) -> Option<u32> {
     match call {
         Call::Moves { record, output } => table::output_refusal(record, *output, MOVES_ROOM),
         Call::Replay { record, output, .. } => table::output_refusal(record, *output, RECORD_ROOM),
@@ -52,6 +55,7 @@ fn due(call: &Call) -> Option<u32> {
         }
         Call::Full { record, pool, budget, interval, .. } => table::full_refusal(record, *pool, *budget, *interval),
         Call::Sheets { output, .. } => table::room_refusal(*output, RECORD_ROOM),
+        Call::Book(call) => books::due(call, book),
     }
 }
 
@@ -66,7 +70,7 @@ fn bad_index(moves: &[u8], a: &Answered) -> Result<(), String> {
     }
 }
 
-fn result(call: &Call, a: &Answered) -> Result<(), String> {
+fn result(call: &Call, book: &Book, a: &Answered) -> Result<(), String> {
     match call {
         Call::Moves { .. } => moves(a.numbers[0], &a.output),
         Call::Replay { record, moves, .. } => replayed(record, moves, &a.output),
@@ -80,10 +84,11 @@ fn result(call: &Call, a: &Answered) -> Result<(), String> {
             must(a.numbers[0] == full(first[0], second[0]), "the full verdict is that of the two verdicts")
         }
         Call::Sheets { first, second, .. } => opening(first, second, a.numbers[0], &a.output),
+        Call::Book(call) => books::result(call, book, a),
     }
 }
 
-fn must(holds: bool, what: &str) -> Result<(), String> {
+pub fn must(holds: bool, what: &str) -> Result<(), String> {
     holds.then_some(()).ok_or_else(|| format!("it must hold that {}", what))
 }
 

@@ -1,4 +1,4 @@
-//! The six exports as pointers, so that wrong ones can stand in for them (`wrong`).
+//! The eight exports as pointers, so that wrong ones can stand in for them (`wrong`).
 
 use uttt::ffi;
 
@@ -8,6 +8,9 @@ type Referee = unsafe extern "C" fn(*const u8, usize, u64) -> ffi::RefereeAnswer
 type Search = unsafe extern "C" fn(*const u8, usize, *mut u32, usize, u64, u64, u64, u64) -> ffi::SearchAnswer;
 type Full = unsafe extern "C" fn(*const u8, usize, *mut u32, usize, u64, u64, u64) -> ffi::FullAnswer;
 type Sheets = unsafe extern "C" fn(*const u8, usize, *const u8, usize, *mut u8, usize, *mut u32) -> u64;
+type Lookup = unsafe extern "C" fn(*const u8, usize, u64, *const u8, usize, u64) -> ffi::LookupAnswer;
+type Add =
+    unsafe extern "C" fn(*mut u8, usize, u64, *const u8, usize, *mut u32, usize, u64, u64, u64, u64) -> ffi::AddAnswer;
 
 #[derive(Clone, Copy)]
 pub struct Exports {
@@ -17,6 +20,8 @@ pub struct Exports {
     pub search: Search,
     pub full: Full,
     pub sheets: Sheets,
+    pub lookup: Lookup,
+    pub add: Add,
 }
 
 /// The proved library's.
@@ -27,4 +32,6 @@ pub const LIBRARY: Exports = Exports {
     search: ffi::uttt_search,
     full: ffi::uttt_full_verdict,
     sheets: ffi::uttt_agreed_opening,
+    lookup: ffi::uttt_book_lookup,
+    add: ffi::uttt_book_add,
 };

@@ -74,10 +74,15 @@ impl Region {
         }
     }
 
-    /// A buffer that holds `bytes` and can't be written.
-    pub fn lend_to_read(&mut self, bytes: &[u8], edge: Edge, filling: Filling) {
+    /// A buffer that holds `bytes`.
+    pub fn lend_holding(&mut self, bytes: &[u8], edge: Edge, filling: Filling) {
         self.lend(bytes.len(), edge, filling);
         self.bytes().copy_from_slice(bytes);
+    }
+
+    /// A buffer that holds `bytes` and can't be written.
+    pub fn lend_to_read(&mut self, bytes: &[u8], edge: Edge, filling: Filling) {
+        self.lend_holding(bytes, edge, filling);
         self.protect(self.pages.clone(), READ);
     }
 

@@ -1,7 +1,7 @@
 //! Calls to try: the generator's, the same with bytes and settings damaged, and bytes at random.
 
 use calls::table::{LARGEST_BUDGET, LARGEST_POOL};
-use calls::{Call, Kind};
+use calls::{BookCall, Call, Kind};
 use oracle::generate::{self, Random};
 
 /// The longest record, list of moves and output.
@@ -15,15 +15,19 @@ const MANY_NODES: u64 = 3_276;
 const BUDGET_OF_SOME: u64 = 999_983;
 const BUDGET_OF_MANY: u64 = 4_999;
 
-pub fn call(random: &mut Random) -> Call {
-    let kind = random.pick(&Kind::ALL);
-    let mut call = generate::call(random, kind);
-    match random.below(8) {
-        0..=3 => (),
-        4..=6 => damage(random, &mut call),
-        _ => scramble(random, &mut call),
+/// A list of calls. Half of those that stand alone are changed, of a book's lines one in six.
+pub fn list(random: &mut Random) -> Vec<Call> {
+    let mut list = generate::any_list(random, &Kind::ALL);
+    let of_so_many = if list.len() == 1 { 8 } else { 24 };
+    for call in &mut list {
+        match random.below(of_so_many) {
+            0..=2 => damage(random, call),
+            3 => scramble(random, call),
+            _ => (),
+        }
+        bound(call);
     }
-    bounded(call)
+    list
 }
 
 /// One or two parts of the call changed.
@@ -37,7 +41,11 @@ fn damage(random: &mut Random, call: &mut Call) {
             (0, Call::Full { pool, limit, budget, interval, .. }) => {
                 *one_of(random, [pool, limit, budget, interval]) = number(random)
             }
-            (0, Call::Referee { rule, .. }) => *rule = number(random),
+            (0, Call::Referee { rule, .. } | Call::Book(BookCall::Lookup { rule, .. })) => *rule = number(random),
+            (0, Call::Book(BookCall::Add { rule, pool, limit, budget, interval, .. })) => {
+                *one_of(random, [rule, pool, limit, budget, interval]) = number(random)
+            }
+            (0, Call::Book(BookCall::Set(book))) => book.count = number(random),
             (0, Call::Sheets { second, .. }) => damage_bytes(random, second),
             (1, Call::Moves { output, .. } | Call::Replay { output, .. } | Call::Sheets { output, .. }) => {
                 *output = length(random)
@@ -46,19 +54,26 @@ fn damage(random: &mut Random, call: &mut Call) {
                 damage_bytes(random, first);
                 second.clone_from(first)
             }
-            (_, any) => damage_bytes(random, first_of(any)),
+            (_, any) => {
+                if let Some(bytes) = first_of(any) {
+                    damage_bytes(random, bytes)
+                }
+            }
         }
     }
 }
 
 /// Everything at random.
 fn scramble(random: &mut Random, call: &mut Call) {
-    *first_of(call) = bytes(random);
+    if let Some(first) = first_of(call) {
+        *first = bytes(random);
+    }
     match call {
         Call::Moves { output, .. } => *output = length(random),
         Call::Replay { moves, output, .. } => (*moves, *output) = (bytes(random), length(random)),
-        Call::Referee { rule, .. } => *rule = number(random),
-        Call::Search { rule, pool, limit, budget, interval, .. } => {
+        Call::Referee { rule, .. } | Call::Book(BookCall::Lookup { rule, .. }) => *rule = number(random),
+        Call::Search { rule, pool, limit, budget, interval, .. }
+        | Call::Book(BookCall::Add { rule, pool, limit, budget, interval, .. }) => {
             [rule, pool, limit, budget, interval].into_iter().for_each(|n| *n = number(random))
         }
         Call::Full { pool, limit, budget, interval, .. } => {
@@ -68,18 +83,23 @@ fn scramble(random: &mut Random, call: &mut Call) {
             *second = if random.once_in(2) { bytes(random) } else { first.clone() };
             *output = length(random)
         }
+        Call::Book(BookCall::Set(book)) => book.count = number(random),
+        Call::Book(BookCall::New { .. } | BookCall::Dump) => (),
     }
 }
 
-/// The record, or the first sheet.
-fn first_of(call: &mut Call) -> &mut Vec<u8> {
+/// The record, the first sheet or the bytes of a book, if there are any.
+fn first_of(call: &mut Call) -> Option<&mut Vec<u8>> {
     match call {
         Call::Moves { record, .. }
         | Call::Replay { record, .. }
         | Call::Search { record, .. }
         | Call::Full { record, .. }
-        | Call::Referee { record, .. } => record,
-        Call::Sheets { first, .. } => first,
+        | Call::Referee { record, .. }
+        | Call::Book(BookCall::Add { record, .. } | BookCall::Lookup { record, .. }) => Some(record),
+        Call::Sheets { first, .. } => Some(first),
+        Call::Book(BookCall::Set(book)) => Some(&mut book.bytes),
+        Call::Book(BookCall::New { .. } | BookCall::Dump) => None,
     }
 }
 
@@ -126,14 +146,16 @@ fn number(random: &mut Random) -> u64 {
 }
 
 /// Bounds a call's work and its pool: no pool is lent that is larger than twice what the library takes.
-fn bounded(mut call: Call) -> Call {
-    if let Call::Search { pool, budget, .. } | Call::Full { pool, budget, .. } = &mut call {
+fn bound(call: &mut Call) {
+    if let Call::Search { pool, budget, .. }
+    | Call::Full { pool, budget, .. }
+    | Call::Book(BookCall::Add { pool, budget, .. }) = call
+    {
         *pool %= MOST_NODES + 1;
         if *budget <= LARGEST_BUDGET && *pool > FEW_NODES {
             *budget %= if *pool > MANY_NODES { BUDGET_OF_MANY } else { BUDGET_OF_SOME };
         }
     }
-    call
 }
 
 /// One of several, to be changed.

@@ -1,7 +1,7 @@
 //! The exports of the proved library on random and damaged bytes. Every buffer stands between pages that can't
 //! be touched, once with its end and once with its start at one; what is lent to be read can't be written; pools
 //! and outputs hold other words each time. Every answer must be one that docs/MANUAL.md allows for the call, and
-//! the same each time. The first violation is printed with its call, as a line that `uttt` reads, and fails.
+//! the same each time. The first violation is printed with its call, as lines that `uttt` reads, and fails.
 //!
 //! ```text
 //! fuzz [SEED [COUNT [SECONDS]]]    up to COUNT calls, for up to so many seconds, then records that try every place
@@ -9,6 +9,7 @@
 //! fuzz wrong NUMBER                one of those
 //! ```
 
+mod books;
 mod checks;
 mod exports;
 mod filling;
@@ -18,8 +19,9 @@ mod run;
 mod watch;
 mod wide;
 mod wrong;
+mod wrong_books;
 
-use calls::{Call, Kind};
+use calls::{Book, BookCall, Call, Kind};
 use exports::{Exports, LIBRARY};
 use guarded::Edge;
 use oracle::generate::{reading, Random};
@@ -45,8 +47,10 @@ fn main() -> ExitCode {
         return all_wrong();
     }
     if let ["wrong", number] = words.as_slice() {
-        let Some((_, exports)) = number.parse().ok().and_then(|at: usize| wrong::ALL.get(at)) else { return usage() };
-        return fuzz(exports, 1, WRONG_CALLS, SECONDS, A_WRONG_CALL);
+        let Some((_, exports)) = number.parse().ok().and_then(|at: usize| wrong_libraries().nth(at)) else {
+            return usage();
+        };
+        return fuzz(&exports, 1, WRONG_CALLS, SECONDS, A_WRONG_CALL);
     }
     let numbers: Option<Vec<u64>> = words.iter().map(|w| w.parse().ok()).collect();
     match numbers.as_deref() {
@@ -59,14 +63,19 @@ fn main() -> ExitCode {
 }
 
 fn usage() -> ExitCode {
-    eprintln!("usage: fuzz [SEED [COUNT [SECONDS]]] | fuzz wrong [NUMBER below {}]", wrong::ALL.len());
+    eprintln!("usage: fuzz [SEED [COUNT [SECONDS]]] | fuzz wrong [NUMBER below {}]", wrong_libraries().count());
     ExitCode::FAILURE
+}
+
+/// What is wrong with each, and its exports.
+fn wrong_libraries() -> impl Iterator<Item = (&'static str, Exports)> {
+    wrong::ALL.into_iter().chain(wrong_books::ALL)
 }
 
 /// Runs every wrong library in a process of its own; each must end with a violation.
 fn all_wrong() -> ExitCode {
     let mut missed = 0;
-    for (number, (what, _)) in wrong::ALL.iter().enumerate() {
+    for (number, (what, _)) in wrong_libraries().enumerate() {
         let program = std::env::current_exe().expect("this program has a path");
         let run = Command::new(program).arg("wrong").arg(number.to_string()).output().expect("it runs again");
         let told = String::from_utf8_lossy(&run.stderr);
@@ -78,7 +87,8 @@ fn all_wrong() -> ExitCode {
             }
         }
     }
-    println!("{} wrong libraries, {} caught", wrong::ALL.len(), wrong::ALL.len() - missed);
+    let all = wrong_libraries().count();
+    println!("{} wrong libraries, {} caught", all, all - missed);
     if missed == 0 {
         ExitCode::SUCCESS
     } else {
@@ -119,12 +129,8 @@ fn calls_at_random(
 ) -> Result<(), String> {
     let start = Instant::now();
     let mut random = Random::new(seed);
-    for _ in 0..count {
-        if start.elapsed() > time {
-            break;
-        }
-        let call = inputs::call(&mut random);
-        tallied(lender, &call, &mut random, tally)?;
+    while tally.values().sum::<u64>() < count && start.elapsed() <= time {
+        tallied(lender, &inputs::list(&mut random), &mut random, tally)?;
     }
     Ok(())
 }
@@ -133,23 +139,33 @@ fn calls_at_random(
 fn calls_place_by_place(lender: &mut Lender, seed: u64, tally: &mut Tally) -> Result<(), String> {
     let mut random = Random::new(seed);
     let records = reading::records(&mut random);
-    let mut calls = records.iter().flat_map(|record| reading::calls_of(record));
-    calls.try_for_each(|call| tallied(lender, &call, &mut random, tally))
+    let mut lists = records.iter().flat_map(|record| reading::lists_of(record));
+    lists.try_for_each(|list| tallied(lender, &list, &mut random, tally))
 }
 
-fn tallied(lender: &mut Lender, call: &Call, random: &mut Random, tally: &mut Tally) -> Result<(), String> {
-    let answered = one(lender, call, random).map_err(|m| format!("{}\n  call: {}", m, call))?;
-    *tally.entry(kind(call, &answered)).or_default() += 1;
+/// The calls of a list, a book kept between them. What a tool does itself is no call.
+fn tallied(lender: &mut Lender, list: &[Call], random: &mut Random, tally: &mut Tally) -> Result<(), String> {
+    let mut book = Book::default();
+    for call in list {
+        if matches!(call, Call::Book(line) if line.by_the_tool(&mut book).is_some()) {
+            continue;
+        }
+        let line = books::lines(call, &book);
+        let answered = one(lender, call, &book, &line, random).map_err(|m| format!("{}\n  call: {}", m, line))?;
+        *tally.entry(kind(call, &answered)).or_default() += 1;
+        if let Call::Book(line) = call {
+            books::take_over(line, &mut book, answered);
+        }
+    }
     Ok(())
 }
 
 /// The call with its buffers at either edge: both answers are allowed, and the same but for what the output
 /// held and still holds.
-fn one(lender: &mut Lender, call: &Call, random: &mut Random) -> Result<Answered, String> {
-    let line = call.to_string();
+fn one(lender: &mut Lender, call: &Call, book: &Book, line: &str, random: &mut Random) -> Result<Answered, String> {
     let mut answer = |edge| {
-        let a = lender.answer(call, &line, edge, random)?;
-        checks::check(call, &a).map(|()| a)
+        let a = lender.answer(call, book, line, edge, random)?;
+        checks::check(call, book, &a).map(|()| a)
     };
     let (first, second) = (answer(Edge::End)?, answer(Edge::Start)?);
     let written = checks::written(call, &first);
@@ -166,8 +182,18 @@ fn kind(call: &Call, a: &Answered) -> String {
         (Kind::Search, _) => format!("verdict {}, cause {}", a.numbers[0], a.numbers[8]),
         (Kind::Full, _) => format!("verdict {}, causes {} and {}", a.numbers[0], a.numbers[9], a.numbers[18]),
         (Kind::Referee, _) => format!("value {}", a.numbers[0]),
+        (Kind::Book, _) => format!("verdict {}, {}", a.numbers[0], books::how(a)),
         (Kind::Moves | Kind::Sheets, _) if a.numbers[0] == 0 => "none".to_string(),
         _ => "answered".to_string(),
     };
-    format!("{:<7}  {}", call.kind().name(), outcome)
+    format!("{:<7}  {}", name(call), outcome)
+}
+
+/// The call's name; of a book's, add or lookup.
+fn name(call: &Call) -> &'static str {
+    match call {
+        Call::Book(BookCall::Add { .. }) => "add",
+        Call::Book(BookCall::Lookup { .. }) => "lookup",
+        call => call.kind().name(),
+    }
 }

@@ -1,17 +1,18 @@
 //! A call of an export with every buffer between guard pages.
 
+use crate::books;
 use crate::exports::Exports;
 use crate::filling::Filling;
 use crate::guarded::{Edge, Region};
 use crate::inputs::{LONGEST, MOST_NODES};
 use crate::watch;
 use calls::record::LENGTH;
-use calls::Call;
+use calls::{Book, Call};
 use oracle::generate::Random;
 use uttt::ffi;
 
 pub const NODE_BYTES: usize = 20;
-const WORD_BYTES: usize = 4;
+pub const WORD_BYTES: usize = 4;
 
 /// What an export gave, and what stands in the output that was lent, if one was.
 #[derive(Clone, Debug, PartialEq)]
@@ -28,11 +29,12 @@ pub struct Lender {
     /// A call that takes longer has failed.
     pub seconds: u32,
     /// What is only read: a record or the first sheet, and moves or the second sheet.
-    first: Region,
+    pub first: Region,
     second: Region,
-    output: Region,
+    /// A book stands in the output's place.
+    pub output: Region,
     number: Region,
-    pool: Region,
+    pub pool: Region,
 }
 
 impl Lender {
@@ -44,7 +46,14 @@ impl Lender {
     }
 
     /// Answers the call, or says what it did that it may not.
-    pub fn answer(&mut self, call: &Call, line: &str, edge: Edge, random: &mut Random) -> Result<Answered, String> {
+    pub fn answer(
+        &mut self,
+        call: &Call,
+        book: &Book,
+        line: &str,
+        edge: Edge,
+        random: &mut Random,
+    ) -> Result<Answered, String> {
         let (first, second) = read_by(call);
         self.first.lend_to_read(first, edge, Filling::any(random));
         self.second.lend_to_read(second, edge, Filling::any(random));
@@ -54,6 +63,7 @@ impl Lender {
             Call::Referee { rule, .. } => Ok(self.referee(*rule, line)),
             Call::Search { pool, .. } | Call::Full { pool, .. } => self.search(call, *pool, line, edge, random),
             Call::Sheets { output, .. } => self.sheets(*output, line, edge, random),
+            Call::Book(call) => self.book(call, book, line, edge, random),
         }?;
         kept(&mut self.first, first)?;
         kept(&mut self.second, second)?;
@@ -173,6 +183,7 @@ fn read_by(call: &Call) -> (&[u8], &[u8]) {
         | Call::Referee { record, .. } => (record, &[]),
         Call::Replay { record, moves, .. } => (record, moves),
         Call::Sheets { first, second, .. } => (first, second),
+        Call::Book(call) => (books::record(call), &[]),
     }
 }
 

@@ -1,10 +1,13 @@
 //! Buffers longer than 32 bits tell: a length cut to 32 bits would give another answer. Of such a buffer the
 //! first page can be written, the others only read.
 
+use crate::books::added;
 use crate::exports::Exports;
 use crate::guarded::Region;
 use crate::run::{judged, searched, Answered};
 use crate::watch;
+use calls::book::{entry, ENTRY};
+use calls::hex;
 use calls::record::{Position, LENGTH};
 use calls::table::MOVES_ROOM;
 
@@ -13,6 +16,8 @@ const NODE_WORDS: usize = 5;
 /// The settings of the searches: rule 0, no limit, one expansion, interval 1.
 const RULE: u64 = 0;
 const LIMIT: u64 = u64::MAX;
+/// D of the manual.
+const DRAWN: &str = "7AB400AC0054001500054000A8002A000A80054000";
 
 /// What is too long, what is due, and the answer.
 type Tried = (&'static str, (u32, u64), Answered);
@@ -28,6 +33,7 @@ pub fn check(exports: &Exports, seconds: u32) -> Result<Option<usize>, String> {
             long_records(exports, &mut long)?,
             long_lists(exports, &mut long)?,
             long_sheets(exports, &mut long)?,
+            long_books(exports, &mut long)?,
             long_pools(exports, &mut pool)?,
         ];
         Ok::<Vec<Tried>, String>(parts.into_iter().flatten().collect())
@@ -49,21 +55,28 @@ fn long_records(exports: &Exports, long: &mut Region) -> Result<Vec<Tried>, Stri
     let (at, length) = (long.pointer(), OVER + LENGTH);
     let (mut out, mut pool) = ([0; MOVES_ROOM], [0; NODE_WORDS * 100]);
     let (to, room, words, size) = (out.as_mut_ptr(), out.len(), pool.as_mut_ptr(), pool.len());
+    let mut book = [0; ENTRY];
+    let entries = book.as_mut_ptr();
     // SAFETY: pointers and lengths belong together, and the buffers are apart.
     let tried = unsafe {
         let moves = (exports.moves)(at, length, to, room);
         let replay = (exports.replay)(at, length, at, 0, to, room);
         let referee = (exports.referee)(at, length, RULE);
+        let lookup = (exports.lookup)(entries, ENTRY, 0, at, length, RULE);
+        let add = (exports.add)(entries, ENTRY, 0, at, length, words, size, RULE, LIMIT, 1, 1);
         vec![
             ("moves, record", (1, 0), bare(moves.code, moves.index)),
             ("replay, record", (1, 0), bare(replay.code, replay.index)),
             ("referee, record", (1, 0), bare(referee.code, referee.index)),
             ("search, record", (1, 0), searched((exports.search)(at, length, words, size, RULE, LIMIT, 1, 1))),
             ("full, record", (1, 0), judged((exports.full)(at, length, words, size, LIMIT, 1, 1))),
+            ("lookup, record", (1, 0), bare(lookup.code, lookup.index)),
+            ("add, record", (1, 0), bare(add.code, add.index)),
         ]
     };
     long.unchanged(LENGTH)?;
-    if long.bytes()[..LENGTH] != record || out != [0; MOVES_ROOM] || pool != [0; NODE_WORDS * 100] {
+    let written = out != [0; MOVES_ROOM] || pool != [0; NODE_WORDS * 100] || book != [0; ENTRY];
+    if long.bytes()[..LENGTH] != record || written {
         return Err("a long record: something was written".to_string());
     }
     Ok(tried)
@@ -116,6 +129,31 @@ fn long_sheets(exports: &Exports, long: &mut Region) -> Result<Vec<Tried>, Strin
     ])
 }
 
+/// A book of whole entries with two of a drawn position, True under rules 0 and 1, of which the first is used: cut
+/// short it would be no multiple of an entry. The lookup finds the first, and the add writes over the second: the
+/// position is False under rule 1. The verdict stands in the index's place.
+fn long_books(exports: &Exports, long: &mut Region) -> Result<Vec<Tried>, String> {
+    let record = hex::read(DRAWN).expect("hexadecimal");
+    let (from, size, length) = (record.as_ptr(), record.len(), OVER.next_multiple_of(ENTRY));
+    let held = entry(&record, 0, 1, 0);
+    let mut pool = [0; NODE_WORDS];
+    long.lend_long(length, &[&held[..], &entry(&record, 1, 1, 0)].concat());
+    let at = long.pointer();
+    // SAFETY: pointers and lengths belong together, and the buffers are apart.
+    let (lookup, add) = unsafe {
+        let lookup = (exports.lookup)(at, length, 1, from, size, 0);
+        (lookup, (exports.add)(at, length, 1, from, size, pool.as_mut_ptr(), pool.len(), 1, LIMIT, 0, 1))
+    };
+    long.unchanged(2 * ENTRY)?;
+    if add.count != 2 || long.bytes()[..2 * ENTRY] != [held, entry(&record, 1, 2, 0)].concat() {
+        return Err(format!("a long book: count {} after an add, or another entry", add.count));
+    }
+    Ok(vec![
+        ("lookup, book", (0, 1), bare(lookup.code, lookup.verdict.into())),
+        ("add, book", (0, 2), bare(add.code, add.verdict.into())),
+    ])
+}
+
 /// Pools that cut short would be of one node: refused by check 9, and nothing is written.
 fn long_pools(exports: &Exports, pool: &mut Region) -> Result<Vec<Tried>, String> {
     let record = Position::start().write();
@@ -126,12 +164,18 @@ fn long_pools(exports: &Exports, pool: &mut Region) -> Result<Vec<Tried>, String
         pool.lend_long(4 * length, &[]);
         let words = pool.pointer() as *mut u32;
         // SAFETY: pointers and lengths belong together, and the buffers are apart.
-        let (search, full) = unsafe {
+        let (search, full, add) = unsafe {
             let search = (exports.search)(from, size, words, length, RULE, LIMIT, 1, 1);
-            (search, (exports.full)(from, size, words, length, LIMIT, 1, 1))
+            let full = (exports.full)(from, size, words, length, LIMIT, 1, 1);
+            let book = std::ptr::null_mut();
+            (search, full, (exports.add)(book, 0, 0, from, size, words, length, RULE, LIMIT, 1, 1))
         };
         pool.unchanged(0)?;
-        tried.extend([("search, pool", (9, 0), searched(search)), ("full, pool", (9, 0), judged(full))]);
+        tried.extend([
+            ("search, pool", (9, 0), searched(search)),
+            ("full, pool", (9, 0), judged(full)),
+            ("add, pool", (9, 0), added(add, 0, &[])),
+        ]);
     }
     Ok(tried)
 }

@@ -1,30 +1,41 @@
 //! The generator repeats itself, reaches every kind of answer, and what it makes loads and stores.
 
-use calls::{table, Answer, Call, Kind};
+use calls::{table, Answer, Book, Call, Kind};
 use oracle::game::GameState;
-use oracle::generate::{call, Random};
+use oracle::generate::{any_list, call, list, Random};
 use oracle::{ending, load, opening, Ending};
 use std::collections::{BTreeMap, BTreeSet};
 
 #[test]
 fn one_seed_gives_one_list() {
-    let list = |seed| {
+    let lists = |seed| {
         let mut random = Random::new(seed);
-        (0..300).map(|i| call(&mut random, Kind::ALL[i % Kind::ALL.len()])).collect::<Vec<Call>>()
+        (0..300).map(|i| list(&mut random, Kind::ALL[i % Kind::ALL.len()])).collect::<Vec<Vec<Call>>>()
     };
-    assert_eq!(list(5), list(5));
-    assert_ne!(list(5), list(6));
+    assert_eq!(lists(5), lists(5));
+    assert_ne!(lists(5), lists(6));
+}
+
+/// Of each kind a list comes about as often as its lines are few.
+#[test]
+fn about_as_many_lines_of_each_kind_come() {
+    let mut random = Random::new(1);
+    let mut lines: BTreeMap<&str, usize> = BTreeMap::new();
+    for list in (0..18_000).map(|_| any_list(&mut random, &Kind::ALL)) {
+        *lines.entry(list[0].kind().name()).or_default() += list.len();
+    }
+    assert!(lines.len() == Kind::ALL.len() && lines.values().all(|n| (2_500..3_500).contains(n)), "{:?}", lines);
 }
 
 /// Refusals by number, results as 0; searches by cause as 20 and up, full verdicts as 30 and up.
 fn outcomes(kind: Kind) -> BTreeSet<u64> {
     let mut random = Random::new(1);
-    let answers = (0..4_000).map(|_| oracle::answer(&call(&mut random, kind)));
+    let answers = (0..4_000).map(|_| oracle::answer(&call(&mut random, kind), &mut Book::default()));
     let outcome = |answer| match answer {
         Answer::Refused { number, .. } => number as u64,
         Answer::Search(fields) => 20 + fields.cause,
         Answer::Full(verdict, ..) => 30 + verdict as u64,
-        Answer::Moves(_) | Answer::Record(_) | Answer::Value(_) | Answer::Opening { .. } => 0,
+        _ => 0,
     };
     answers.map(outcome).collect()
 }

@@ -1,7 +1,9 @@
 //! The records that try loading place by place are there, every one that `generate::reading` says.
 
+use calls::book::ENTRY;
 use calls::record::{Position, EMPTY, FREE_CHOICE, LENGTH, O, X};
 use calls::table::{board_state, finished, has_line, record_refusal, Board};
+use calls::{BookCall, Call};
 use oracle::generate::{reading, Damage, Random};
 use std::collections::BTreeSet;
 
@@ -18,8 +20,8 @@ fn positions(list: &[(Vec<u8>, u32)]) -> impl Iterator<Item = (Position, u32)> +
 #[test]
 fn the_list_has_its_length() {
     let records = reading::records(&mut Random::new(1));
-    let calls = records.iter().flat_map(|record| reading::calls_of(record));
-    assert_eq!((records.len(), calls.count()), (10_880, 54_400));
+    let lists: Vec<_> = records.iter().flat_map(|record| reading::lists_of(record)).collect();
+    assert_eq!((records.len(), lists.len(), lists.iter().flatten().count()), (10_880, 65_280, 97_920));
 }
 
 /// Refused by each check, and by check 3 with either side to move.
@@ -122,4 +124,17 @@ fn one_cell_from_accepted(position: &Position) -> bool {
 
 fn has_line_of(board: &[u8; 9], code: u8) -> bool {
     has_line(&board.map(|cell| cell == code))
+}
+
+/// Among the books of accepted records every bit of an entry's record is turned somewhere.
+#[test]
+fn every_bit_of_an_entry_is_turned() {
+    let mut seen = BTreeSet::new();
+    for (record, _) in list().iter().filter(|(_, refusal)| *refusal == 0) {
+        let lists = reading::lists_of(record);
+        let Some(Call::Book(BookCall::Set(book))) = lists.last().map(|list| &list[0]) else { unreachable!() };
+        let entries: BTreeSet<&[u8]> = book.bytes.chunks(ENTRY).map(|entry| &entry[..LENGTH]).collect();
+        seen.extend((0..8 * LENGTH).filter(|bit| entries.contains(reading::turned(record, *bit).as_slice())));
+    }
+    assert_eq!(seen.len(), 8 * LENGTH);
 }

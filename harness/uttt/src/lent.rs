@@ -16,6 +16,13 @@ impl Lent {
         Lent { bytes, length, pattern }
     }
 
+    /// Bytes that the call is to find there, the margins under a pattern.
+    pub fn holding(bytes: &[u8], pattern: u8) -> Lent {
+        let mut lent = Lent::new(bytes.len(), pattern);
+        lent.bytes[MARGIN..MARGIN + bytes.len()].copy_from_slice(bytes);
+        lent
+    }
+
     pub fn pointer(&mut self) -> *mut u8 {
         self.bytes[MARGIN..].as_mut_ptr()
     }
@@ -25,12 +32,24 @@ impl Lent {
         if count > self.length {
             return Err(format!("{} bytes were said to be written, and {} were lent", count, self.length));
         }
-        let kept = |at: &usize| self.bytes[*at] == filling(self.pattern, *at);
         let mut others = (0..MARGIN).chain(MARGIN + count..self.bytes.len());
-        match others.find(|at| !kept(at)) {
+        match others.find(|at| self.bytes[*at] != filling(self.pattern, *at)) {
             None => Ok(&self.bytes[MARGIN..MARGIN + count]),
-            Some(at) => Err(format!("byte {} of a buffer of {} was written", at as i64 - MARGIN as i64, self.length)),
+            Some(at) => Err(format!("byte {} was written", self.place(at))),
         }
+    }
+
+    /// The bytes are these, as many as were lent, and the margins still hold the pattern; else where not.
+    pub fn holds(&self, bytes: &[u8]) -> Result<(), String> {
+        let due = Lent::holding(bytes, self.pattern).bytes;
+        match (0..due.len()).find(|at| self.bytes[*at] != due[*at]) {
+            None => Ok(()),
+            Some(at) => Err(format!("byte {} is {:02X}, not {:02X}", self.place(at), self.bytes[at], due[at])),
+        }
+    }
+
+    fn place(&self, at: usize) -> String {
+        format!("{} of a buffer of {}", at as i64 - MARGIN as i64, self.length)
     }
 }
 

@@ -1,5 +1,6 @@
 //! The proved library behind the same calls and answers as the oracle.
 
+mod book;
 #[path = "../../../bindings/rust/src/ffi.rs"]
 pub mod ffi;
 mod lent;

@@ -2,22 +2,25 @@
 //! library had no business with stayed as it was; of a very long pool, those that are looked at.
 
 use crate::lent::Lent;
-use crate::{ffi, pool};
+use crate::{book, ffi, pool};
 use calls::line::Verdict;
 use calls::record::LENGTH;
-use calls::{Answer, Call, Fields, FullVerdict};
+use calls::{Answer, Book, Call, Fields, FullVerdict};
 
-/// Answers a call under two opposite patterns, or says what is wrong.
-pub fn answer(call: &Call) -> Result<Answer, String> {
-    let first = answer_under(call, 0x5A)?;
-    let second = answer_under(call, 0xA5)?;
+/// Answers a call under two opposite patterns, or says what is wrong. Both times a book's line begins with `book`,
+/// which is then as the line left it.
+pub fn answer(call: &Call, book: &mut Book) -> Result<Answer, String> {
+    let (mut after, mut other) = (book.clone(), book.clone());
+    let first = answer_under(call, &mut after, 0x5A)?;
+    let second = answer_under(call, &mut other, 0xA5)?;
     if first != second {
         return Err(format!("the answer depends on what the buffer held: {} and {}", first, second));
     }
+    *book = after;
     Ok(first)
 }
 
-fn answer_under(call: &Call, pattern: u8) -> Result<Answer, String> {
+fn answer_under(call: &Call, book: &mut Book, pattern: u8) -> Result<Answer, String> {
     match call {
         Call::Moves { record, output } => moves(record, *output, pattern),
         Call::Replay { record, moves, output } => replay(record, moves, *output, pattern),
@@ -29,6 +32,7 @@ fn answer_under(call: &Call, pattern: u8) -> Result<Answer, String> {
         }
         Call::Referee { record, rule } => referee(record, *rule),
         Call::Sheets { first, second, output } => sheets(first, second, *output, pattern),
+        Call::Book(call) => book::answer(call, book, pattern),
     }
 }
 
@@ -165,12 +169,7 @@ fn full(record: &[u8], nodes: u64, limits: [u64; 3], pattern: u8) -> Result<Answ
 /// The nine fields, or the number that is no verdict's.
 pub fn fields(result: ffi::ResultFields) -> Result<Fields, String> {
     Ok(Fields {
-        verdict: match result.verdict {
-            0 => Verdict::Unknown,
-            1 => Verdict::True,
-            2 => Verdict::False,
-            other => return Err(format!("answered with verdict {}", other)),
-        },
+        verdict: verdict(result.verdict)?,
         proof: result.proof.into(),
         disproof: result.disproof.into(),
         allocated: result.allocated,
@@ -180,6 +179,16 @@ pub fn fields(result: ffi::ResultFields) -> Result<Fields, String> {
         expanded: result.expanded,
         cause: result.cause.into(),
     })
+}
+
+/// The verdict of a number.
+pub fn verdict(number: u32) -> Result<Verdict, String> {
+    match number {
+        0 => Ok(Verdict::Unknown),
+        1 => Ok(Verdict::True),
+        2 => Ok(Verdict::False),
+        other => Err(format!("answered with verdict {}", other)),
+    }
 }
 
 /// A refusal of a search or a full verdict: all of its results are zeros.
@@ -199,7 +208,7 @@ fn refusal(lent: &Lent, number: u32, index: u64, result: u64) -> Result<Answer, 
     Ok(Answer::Refused { number, index })
 }
 
-fn same(what: &str, before: &[u8], after: &[u8]) -> Result<(), String> {
+pub fn same(what: &str, before: &[u8], after: &[u8]) -> Result<(), String> {
     if before == after {
         Ok(())
     } else {

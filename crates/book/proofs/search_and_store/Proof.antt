@@ -1,11 +1,9 @@
 -- `book::search_and_store` meets its contract: the search's verdict, stored if it is True or False. Assumes nothing.
-use mathlib.Core.Path.{sym, ap, _∙_}
+use mathlib.Core.Path.{ap, _∙_}
 use native.Mathlib.Omega.{arith}
 use Prim.Native.Nat.{_<_}
-use lib.ListN.{length}
 use Rattle.machine.specs.Machine.{Result}
 use Rattle.prove.specs.Numbers.{verdict, verdictNumber}
-use Rattle.searches.specs.Answers.{limitsOf}
 use Rattle.searches.specs.Accepting.{accepts}
 use Rattle.book.specs.Book.{bookOf}
 use Rattle.book.specs.Passing.{record-length}

@@ -7,6 +7,18 @@ use Rattle.vectors.proofs.run_line.Tie as tie
 first-word-requires : tie.Need-first-word-requires
 first-word-requires c κs = search needs
 
+slice-aggregate-is-word : tie.Need-slice-aggregate-is-word
+slice-aggregate-is-word c = search needs
+
+is-word-requires : tie.Need-is-word-requires
+is-word-requires c κs = search needs
+
+run-requires : tie.Need-run-requires
+run-requires c κs = search needs
+
+returns : tie.Need-returns
+returns c = search needs
+
 slice-aggregate-read-bytes : tie.Need-slice-aggregate-read-bytes
 slice-aggregate-read-bytes c = search needs
 
@@ -19,8 +31,8 @@ enum-known-n c = search needs
 enum-told : tie.Need-enum-told
 enum-told c = search needs
 
-returns : tie.Need-returns
-returns c = search needs
+returns-2 : tie.Need-returns-2
+returns-2 c = search needs
 
 array-share-prefix-record : tie.Need-array-share-prefix-record
 array-share-prefix-record c = counted _ (c .before .n .given .1) (c .before .before .before .before .read-bytes .ensures) .0
@@ -28,23 +40,27 @@ array-share-prefix-record c = counted _ (c .before .n .given .1) (c .before .bef
 slice-aggregate-run : tie.Need-slice-aggregate-run
 slice-aggregate-run c = counted _ (c .before .before .n .given .1) (c .before .before .before .before .before .read-bytes .ensures) .1
 
-run-requires : tie.Need-run-requires
-run-requires c κs = search needs
+run-requires-2 : tie.Need-run-requires-2
+run-requires-2 c κs = search needs
 
-returns-2 : tie.Need-returns-2
-returns-2 c = search needs
+returns-3 : tie.Need-returns-3
+returns-3 c = search needs
 
 pub run-line-spec : {M : Type 1} → statement M
 run-line-spec =
     tie.close
     (tie.spec
     first-word-requires
+    slice-aggregate-is-word
+    is-word-requires
+    run-requires
+    returns
     slice-aggregate-read-bytes
     read-bytes-requires
     enum-known-n
     enum-told
-    returns
+    returns-2
     array-share-prefix-record
     slice-aggregate-run
-    run-requires
-    returns-2)
+    run-requires-2
+    returns-3)

@@ -1,15 +1,18 @@
 -- `vectors::run_list` is safe and ends. The loop's invariant: no more lines than bytes were passed, and no more agreed than lines. Assumes nothing.
 use Prim.Native.Nat.{_≤_, _-_}
-use lib.ListN.{length}
+use lib.ListN.{length as size}
 use borrow.Author.Needs.{needs}
 use Rattle.vectors.proofs.run_list.Statement.{statement}
 use Rattle.vectors.proofs.run_list.Tie as tie
 
 abbrev Inv-loop : tie.InvT-loop
-Inv-loop text at₀ lines₀ agreed₀ t6 t7 at lines agreed = (lines ≤ at) × (agreed ≤ lines)
+Inv-loop text bytes₀ length₀ count₀ at₀ lines₀ agreed₀ t9 t10 bytes length count at lines agreed = (lines ≤ at) × (agreed ≤ lines)
 
 abbrev μ-loop : tie.MeasureT-loop
-μ-loop text at₀ lines₀ agreed₀ t6 t7 at lines agreed = length text - at
+μ-loop text bytes₀ length₀ count₀ at₀ lines₀ agreed₀ t9 t10 bytes length count at lines agreed = size text - at
+
+zeros-requires : tie.Need-zeros-requires Inv-loop μ-loop
+zeros-requires c κs = search needs
 
 loop-holds : tie.Need-loop-holds Inv-loop μ-loop
 loop-holds c = search needs
@@ -74,6 +77,7 @@ run-list-spec =
     (tie.spec
     Inv-loop
     μ-loop
+    zeros-requires
     loop-holds
     find-requires
     add-lines

@@ -1,7 +1,9 @@
 //! Calls at random, the same for the same seed: records reached by play and accepted ones that no
 //! game reaches, damaged ones, right and wrong moves, pairs of sheets, settings in and out of range.
+//! The lines of a book come as lists (`book`), which hold together; every other call is a list of its own.
 //! Beside them (`reading`) records that try loading place by place.
 
+pub mod book;
 mod damaged;
 mod moves;
 mod positions;
@@ -19,7 +21,28 @@ use calls::table::{open_cells, MOVES_ROOM, RECORD_ROOM};
 use calls::{Call, Kind};
 use settings::Settings;
 
-/// A call of the given kind.
+/// A list of a book's lines is drawn once in so many times that its kind is, since it has about as many lines.
+const LINES_OF_A_BOOK: u64 = 16;
+
+/// A list of one of the given kinds; about as many lines of each kind come.
+pub fn any_list(random: &mut Random, kinds: &[Kind]) -> Vec<Call> {
+    loop {
+        let kind = random.pick(kinds);
+        if kind != Kind::Book || random.once_in(LINES_OF_A_BOOK) {
+            return list(random, kind);
+        }
+    }
+}
+
+/// A list of the given kind.
+pub fn list(random: &mut Random, kind: Kind) -> Vec<Call> {
+    match kind {
+        Kind::Book => book::list(random).into_iter().map(Call::Book).collect(),
+        kind => vec![call(random, kind)],
+    }
+}
+
+/// A call of the given kind, which is not the book's.
 pub fn call(random: &mut Random, kind: Kind) -> Call {
     match kind {
         Kind::Moves => {
@@ -47,6 +70,7 @@ pub fn call(random: &mut Random, kind: Kind) -> Call {
             let (first, second) = sheets::sheets(random);
             Call::Sheets { first, second, output: output(random, RECORD_ROOM) }
         }
+        Kind::Book => unreachable!("a book's lines are a list"),
     }
 }
 

@@ -5,9 +5,10 @@ use super::damaged::{any_bytes, damage, Damage};
 use super::positions::{accepted, reached};
 use super::random::Random;
 use crate::load;
+use calls::book::entry;
 use calls::record::{Position, LENGTH};
 use calls::table::{MOVES_ROOM, RECORD_ROOM};
-use calls::Call;
+use calls::{Book, BookCall, Call};
 
 /// Positions that are changed at every place: of random play after so many moves or at the game's end, and so many
 /// other accepted ones, most of which no game reaches.
@@ -43,27 +44,47 @@ pub fn records(random: &mut Random) -> Vec<Vec<u8>> {
     records
 }
 
-/// Calls that load a record and then do little: the record itself is given back, and the position's legal moves
-/// and children are made. Of an accepted one the referee refuses the rule.
-pub fn calls_of(record: &[u8]) -> [Call; 5] {
+/// Calls that load a record and then do little, each a list of its own: the record itself is given back, and the
+/// position's legal moves and children are made. Of an accepted one the referee refuses the rule. The last list is a
+/// book's.
+pub fn lists_of(record: &[u8]) -> Vec<Vec<Call>> {
     let record = || record.to_vec();
     let (pool, limit, budget, interval) = (82, u64::MAX, 1, 1);
-    [
-        Call::Replay { record: record(), moves: vec![], output: RECORD_ROOM },
-        Call::Moves { record: record(), output: MOVES_ROOM },
-        Call::Search { record: record(), rule: 0, pool, limit, budget, interval },
-        Call::Full { record: record(), pool, limit, budget, interval },
-        Call::Referee { record: record(), rule: 3 },
+    vec![
+        vec![Call::Replay { record: record(), moves: vec![], output: RECORD_ROOM }],
+        vec![Call::Moves { record: record(), output: MOVES_ROOM }],
+        vec![Call::Search { record: record(), rule: 0, pool, limit, budget, interval }],
+        vec![Call::Full { record: record(), pool, limit, budget, interval }],
+        vec![Call::Referee { record: record(), rule: 3 }],
+        lines_of_a_book(record()).map(Call::Book).to_vec(),
     ]
+}
+
+/// Lookups and an add in a book with entries that are not held for the record, then True and False for it. Under rule 2
+/// there is an entry past the count alone. Of the first 21 each has one bit turned, in another byte.
+fn lines_of_a_book(record: Vec<u8>) -> [BookCall; 4] {
+    let mut whole = record.clone();
+    whole.resize(LENGTH, 0);
+    let place = whole.iter().map(|byte| usize::from(*byte)).sum::<usize>() % 8;
+    let near = (0..LENGTH).flat_map(|at| entry(&turned(&whole, 8 * at + place), 0, 2, 0));
+    let others = [entry(&whole, 1, 2, 0), entry(&whole, 0, 0, 0), entry(&whole, 0, 3, 0)];
+    let of_record = [entry(&whole, 0, 1, 7), entry(&whole, 0, 2, 0), entry(&whole, 2, 1, 0)];
+    let bytes = near.chain(others.concat()).chain(of_record.concat()).collect();
+    let book = Book { bytes, count: LENGTH as u64 + 5 };
+    let lookup = |rule| BookCall::Lookup { record: record.clone(), rule };
+    let add = BookCall::Add { record: record.clone(), rule: 0, pool: 1, limit: 0, budget: 0, interval: 1 };
+    [BookCall::Set(book), lookup(0), lookup(2), add]
+}
+
+/// The record with one bit turned.
+pub fn turned(record: &[u8], bit: usize) -> Vec<u8> {
+    let mut turned = record.to_vec();
+    turned[bit / 8] ^= 128 >> (bit % 8);
+    turned
 }
 
 /// The position's record with each bit turned, each code at each cell, each target, and of each length.
 fn changed(position: &Position) -> Vec<Vec<u8>> {
-    let turned = |bit: usize| {
-        let mut record = position.write();
-        record[bit / 8] ^= 128 >> (bit % 8);
-        record.to_vec()
-    };
     let cell = |at: usize, code| {
         let mut position = *position;
         position.cells[at / 9][at % 9] = code;
@@ -74,7 +95,7 @@ fn changed(position: &Position) -> Vec<Vec<u8>> {
         record.resize(length, 0);
         record
     };
-    let mut records: Vec<Vec<u8>> = (0..BITS).map(turned).collect();
+    let mut records: Vec<Vec<u8>> = (0..BITS).map(|bit| turned(&position.write(), bit)).collect();
     records.extend((0..CELLS).flat_map(|at| (0..=NO_CODE).map(move |code| cell(at, code))));
     records.extend((0..16).map(|target| Position { target, ..*position }.write().to_vec()));
     records.extend((0..=LONGEST).map(long));

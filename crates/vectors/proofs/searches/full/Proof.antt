@@ -1,7 +1,6 @@
 -- `vectors::searches::full` is safe: the pool is at least as long as the part that is lent. Assumes nothing.
 use borrow.Author.Needs.{needs}
-use lib.ListN.{length-take}
-use native.Mathlib.Omega.{arith}
+use Rattle.vectors.specs.Lent.{lent}
 use Rattle.vectors.proofs.searches.full.Statement.{statement}
 use Rattle.vectors.proofs.searches.full.Tie as tie
 
@@ -17,23 +16,20 @@ enum-told c = search needs
 returns : tie.Need-returns
 returns c = search needs
 
-returns-2 : tie.Need-returns-2
-returns-2 c = search needs
-
-mul-length : tie.Need-mul-length
-mul-length c = search needs
-
-add-length : tie.Need-add-length
-add-length c = search needs
-
 fresh-pool-requires : tie.Need-fresh-pool-requires
 fresh-pool-requires c κs = search needs
 
 array-borrow-prefix-pool : tie.Need-array-borrow-prefix-pool
-array-borrow-prefix-pool c = search needs
+array-borrow-prefix-pool c =
+    lent (c .fresh-pool .result) (c .fresh-pool .ensures)
+    (c .before .before .x .given .1)
+    (c .before .before .before .before .read-settings .ensures) .0
 
 slice-aggregate-uttt-full-verdict : tie.Need-slice-aggregate-uttt-full-verdict
-slice-aggregate-uttt-full-verdict c = simp length-take (omega arith)
+slice-aggregate-uttt-full-verdict c =
+    lent (c .before .fresh-pool .result) (c .before .fresh-pool .ensures)
+    (c .before .before .before .x .given .1)
+    (c .before .before .before .before .before .read-settings .ensures) .1
 
 uttt-full-verdict-requires : tie.Need-uttt-full-verdict-requires
 uttt-full-verdict-requires c κs = search needs
@@ -50,8 +46,8 @@ untouched-requires c κs = search needs
 if-also-requires : tie.Need-if-also-requires
 if-also-requires c κs = search needs
 
-returns-3 : tie.Need-returns-3
-returns-3 c = search needs
+returns-2 : tie.Need-returns-2
+returns-2 c = search needs
 
 pub full-spec : {M : Type 1} → statement M
 full-spec =
@@ -61,9 +57,6 @@ full-spec =
     enum-known-x
     enum-told
     returns
-    returns-2
-    mul-length
-    add-length
     fresh-pool-requires
     array-borrow-prefix-pool
     slice-aggregate-uttt-full-verdict
@@ -72,4 +65,4 @@ full-spec =
     closed-from-requires
     untouched-requires
     if-also-requires
-    returns-3)
+    returns-2)

@@ -1,7 +1,6 @@
 -- `vectors::searches::search` is safe: the pool is at least as long as the part that is lent. Assumes nothing.
 use borrow.Author.Needs.{needs}
-use lib.ListN.{length-take}
-use native.Mathlib.Omega.{arith}
+use Rattle.vectors.specs.Lent.{lent}
 use Rattle.vectors.proofs.searches.search.Statement.{statement}
 use Rattle.vectors.proofs.searches.search.Tie as tie
 
@@ -29,23 +28,20 @@ enum-told-2 c = search needs
 returns-2 : tie.Need-returns-2
 returns-2 c = search needs
 
-returns-3 : tie.Need-returns-3
-returns-3 c = search needs
-
-mul-length : tie.Need-mul-length
-mul-length c = search needs
-
-add-length : tie.Need-add-length
-add-length c = search needs
-
 fresh-pool-requires : tie.Need-fresh-pool-requires
 fresh-pool-requires c κs = search needs
 
 array-borrow-prefix-pool : tie.Need-array-borrow-prefix-pool
-array-borrow-prefix-pool c = search needs
+array-borrow-prefix-pool c =
+    lent (c .fresh-pool .result) (c .fresh-pool .ensures)
+    (c .before .before .x .given .1)
+    (c .before .before .before .before .read-settings .ensures) .0
 
 slice-aggregate-uttt-search : tie.Need-slice-aggregate-uttt-search
-slice-aggregate-uttt-search c = simp length-take (omega arith)
+slice-aggregate-uttt-search c =
+    lent (c .before .fresh-pool .result) (c .before .fresh-pool .ensures)
+    (c .before .before .before .x .given .1)
+    (c .before .before .before .before .before .read-settings .ensures) .1
 
 uttt-search-requires : tie.Need-uttt-search-requires
 uttt-search-requires c κs = search needs
@@ -62,8 +58,8 @@ untouched-requires c κs = search needs
 if-also-requires : tie.Need-if-also-requires
 if-also-requires c κs = search needs
 
-returns-4 : tie.Need-returns-4
-returns-4 c = search needs
+returns-3 : tie.Need-returns-3
+returns-3 c = search needs
 
 pub search-spec : {M : Type 1} → statement M
 search-spec =
@@ -77,9 +73,6 @@ search-spec =
     enum-known-x
     enum-told-2
     returns-2
-    returns-3
-    mul-length
-    add-length
     fresh-pool-requires
     array-borrow-prefix-pool
     slice-aggregate-uttt-search
@@ -88,4 +81,4 @@ search-spec =
     closed-from-requires
     untouched-requires
     if-also-requires
-    returns-4)
+    returns-3)

@@ -1,0 +1,52 @@
+//! A tally of answers by what they are, so that the run shows what it covered.
+
+use calls::{Answer, BookCall, Call};
+use oracle::Ending;
+use std::collections::BTreeMap;
+
+pub type Tally = BTreeMap<String, u64>;
+
+/// What a call was and how it was answered; `count` is the book's before it.
+pub fn kind(call: &Call, answer: &Answer, count: u64) -> String {
+    let outcome = match answer {
+        Answer::Refused { number, .. } => format!("refused {:>2}", number),
+        Answer::Search(fields) => format!("{:?}, cause {}", fields.verdict, fields.cause),
+        Answer::Full(verdict, first, second) => {
+            format!("{}, causes {} and {}", verdict.name(), first.cause, second.cause)
+        }
+        Answer::Moves(moves) if moves.is_empty() => "none".to_string(),
+        Answer::Moves(_) | Answer::Record(_) => "answered".to_string(),
+        Answer::Value(_) | Answer::Found(_) => answer.to_string(),
+        Answer::Opening { .. } => how_it_ended(call),
+        Answer::Added { verdict, count: after } => {
+            format!("{:?}, {}", verdict, if *after > count { "stored" } else { "not stored" })
+        }
+        Answer::Ok | Answer::Book(_) => "done".to_string(),
+    };
+    format!("{:<11}  {}", name(call), outcome)
+}
+
+/// The word that the call's line starts with, two words of a book's line.
+fn name(call: &Call) -> String {
+    let word = match call {
+        Call::Book(BookCall::New { .. }) => " new",
+        Call::Book(BookCall::Set(_)) => " set",
+        Call::Book(BookCall::Dump) => " dump",
+        Call::Book(BookCall::Add { .. }) => " add",
+        Call::Book(BookCall::Lookup { .. }) => " lookup",
+        _ => "",
+    };
+    format!("{}{}", call.kind().name(), word)
+}
+
+/// What ended the opening of two sheets.
+fn how_it_ended(call: &Call) -> String {
+    let Call::Sheets { first, second, .. } = call else { unreachable!("no other call has an opening") };
+    match oracle::ending(first, second) {
+        Ending::BothEnd => "both end".to_string(),
+        Ending::FirstEnds => "the first ends".to_string(),
+        Ending::SecondEnds => "the second ends".to_string(),
+        Ending::Difference => "they differ".to_string(),
+        Ending::Error(number) => format!("error {} on both", number),
+    }
+}

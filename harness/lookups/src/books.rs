@@ -1,0 +1,118 @@
+//! Books in which no question's pair is held, so that a lookup goes through all of their entries.
+
+use calls::record::LENGTH;
+use oracle::generate::{reached, Random};
+use oracle::load;
+
+/// Bytes of an entry: a record's, and one with the rule and the verdict.
+pub const ENTRY: usize = LENGTH + 1;
+const SEED: u64 = 1;
+/// How many different questions a book of random positions is asked.
+const QUESTIONS: usize = 4;
+
+pub type Record = [u8; LENGTH];
+
+/// The pair that is looked up.
+#[derive(Clone, Copy)]
+pub struct Question {
+    pub record: Record,
+    pub rule: u64,
+}
+
+/// Bytes of entries, all of them used, and what is asked of them.
+pub struct Book {
+    pub bytes: Vec<u8>,
+    pub questions: Vec<Question>,
+}
+
+impl Book {
+    pub fn count(&self) -> u64 {
+        (self.bytes.len() / ENTRY) as u64
+    }
+}
+
+/// What an entry has in common with the question.
+#[derive(Clone, Copy)]
+enum Alike {
+    /// It is another position of random play.
+    Nothing,
+    /// All of the record but its last byte.
+    Front,
+    /// All of the record but its first byte.
+    Back,
+    /// The whole record, under another rule.
+    Record,
+}
+
+pub struct Kind {
+    pub name: &'static str,
+    pub entries: usize,
+    alike: Alike,
+}
+
+const fn kind(name: &'static str, entries: usize, alike: Alike) -> Kind {
+    Kind { name, entries, alike }
+}
+
+pub const KINDS: [Kind; 7] = [
+    kind("no entries", 0, Alike::Nothing),
+    kind("positions of random play", 50, Alike::Nothing),
+    kind("positions of random play", 5_000, Alike::Nothing),
+    kind("positions of random play", 500_000, Alike::Nothing),
+    kind("records that differ in their last byte alone", 5_000, Alike::Front),
+    kind("records that differ in their first byte alone", 5_000, Alike::Back),
+    kind("the record itself under other rules", 5_000, Alike::Record),
+];
+
+impl Kind {
+    /// The book, the same each time.
+    pub fn book(&self) -> Book {
+        let mut random = Random::new(SEED);
+        let number = if matches!(self.alike, Alike::Nothing) { QUESTIONS } else { 1 };
+        let question = |_| Question { record: position(&mut random), rule: random.below(3) };
+        let questions: Vec<Question> = (0..number).map(question).collect();
+        let bytes = (0..self.entries).flat_map(|_| self.entry(&mut random, &questions)).collect();
+        Book { bytes, questions }
+    }
+
+    fn entry(&self, random: &mut Random, questions: &[Question]) -> [u8; ENTRY] {
+        let Question { mut record, rule } = questions[0];
+        let mut other_rule = random.below(3);
+        match self.alike {
+            Alike::Nothing => record = unasked(random, questions),
+            Alike::Front => record[LENGTH - 1] ^= change(random),
+            Alike::Back => record[0] ^= change(random),
+            Alike::Record => other_rule = (rule + 1 + random.below(2)) % 3,
+        }
+        entry(&record, other_rule, 1 + random.below(2))
+    }
+}
+
+/// An entry of these.
+pub fn entry(record: &Record, rule: u64, verdict: u64) -> [u8; ENTRY] {
+    let mut bytes = [0; ENTRY];
+    bytes[..LENGTH].copy_from_slice(record);
+    bytes[LENGTH] = (rule << 6 | verdict << 4) as u8;
+    bytes
+}
+
+/// A position of random play after 30 to 60 moves, or at the game's end.
+pub fn position(random: &mut Random) -> Record {
+    let plies = 30 + random.below(31);
+    load::record(&reached(random, plies))
+}
+
+/// A position that no question is about.
+fn unasked(random: &mut Random, questions: &[Question]) -> Record {
+    loop {
+        let record = position(random);
+        if !questions.iter().any(|q| q.record == record) {
+            return record;
+        }
+    }
+}
+
+/// What is put on a byte to change it: not 0.
+fn change(random: &mut Random) -> u8 {
+    1 + random.below(255) as u8
+}
