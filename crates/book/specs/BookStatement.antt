@@ -29,9 +29,10 @@ pub record BookStatement (buffer : List ℕ) (calls : List BookCall) : Type 0 wh
   -- a call that is refused changes nothing.
   pub refused-as-it-was : (c : BookCall) → let B = afterCalls calls (emptyBook buffer) in (outcomeOf c B .number ≡ 0 → ⊥) → outcomeOf c B .left ≡ B
 
--- What an add writes, in any book: nothing; or the 22 bytes at the count, and the count goes up by one. Every other byte stays.
+-- A book with one entry written at its count, and the count one more: every byte but those 22 is as it was.
+abbrev pub oneWritten : Book → (bytes : List ℕ) (rule verdict : ℕ) → Book
+oneWritten B bytes rule v = bookOf (take (B .count * 22) (B .bytes) ++ (bytes ++ ((rule * 64 + v * 16) ∷ drop (suc (B .count) * 22) (B .bytes)))) (suc (B .count))
+
+-- What an add leaves, of any book: the book as it was, or that.
 abbrev pub AddWrites : (bytes : List ℕ) (words rule : ℕ) → Limits → Book → Type 0
-AddWrites bytes words rule L B =
-    let a = addCall bytes words rule L B in
-    (a .left ≡ B)
-    ⊎ (a .left ≡ bookOf (take (B .count * 22) (B .bytes) ++ (bytes ++ ((rule * 64 + a .verdict * 16) ∷ drop (suc (B .count) * 22) (B .bytes)))) (suc (B .count)))
+AddWrites bytes words rule L B = let a = addCall bytes words rule L B in (a .left ≡ B) ⊎ (a .left ≡ oneWritten B bytes rule (a .verdict))

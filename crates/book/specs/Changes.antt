@@ -1,13 +1,12 @@
 -- What a call makes of the used entries: nothing, or one more, of a pair that was not held, with its value. Rests on Lists, Passing and the machine's theorem.
 use mathlib.Core.Path.{_≡_, refl, ap, _∙_}
 use mathlib.Core.Bool.{true, false}
-use mathlib.Core.List.{List, _∷_, _++_}
+use mathlib.Core.List.{List}
 use mathlib.Core.Logic.{_⊎_, inl, inr}
-use Prim.Native.Nat.{ℕ, zero, suc, _+_, _*_, _<_}
+use Prim.Native.Nat.{ℕ, zero, suc, _<_}
 use native.Mathlib.Omega.{arith}
 use borrow.Author.Tests.{leb-false}
 use lib.Dec.{leb}
-use lib.ListN.{take, drop}
 use Rattle.rules.specs.Refusals.{refuses}
 use Rattle.rules.specs.RefusalLaws.{passes-check}
 use Rattle.machine.specs.Machine.{Result, Verdict, True, False, Unknown}
@@ -21,7 +20,7 @@ use Rattle.entries.specs.Entries.{Entry, find, newEntry, storing}
 use Rattle.entries.specs.Buffers.{stored-bytes}
 use Rattle.book.specs.Book.{Book, bookOf, BookOutcome, size, used, refused, holding, lookupRefusal, lookupCall, addRefusal, searchedVerdict, storedIn, searchingFor, addCall}
 use Rattle.book.specs.Lists.{BookCall, Lookup, Add, outcomeOf}
-use Rattle.book.specs.BookStatement.{valueNumber, AddWrites}
+use Rattle.book.specs.BookStatement.{valueNumber, oneWritten, AddWrites}
 use Rattle.book.specs.Passing.{Fits, AddPassed, add-passed, record-length, used-stored, fits-stored}
 
 -- an answer by the number that decides it
@@ -30,7 +29,7 @@ by-number P zero r o p q = q refl
 by-number P (suc n) r o p q = p n refl
 
 -- a search's verdict is the value
-pub search-value : (bytes : List ℕ) (words rule : ℕ) (L : Limits) → Accepts bytes words rule L → (searchedVerdict bytes words rule L ≡ 0 → ⊥) → searchedVerdict bytes words rule L ≡ valueNumber bytes rule
+pub search-value : (bytes : List ℕ) (words rule : ℕ) (L : Limits) → Accepts bytes words rule L → let v = searchedVerdict bytes words rule L in (v ≡ 0 → ⊥) → v ≡ valueNumber bytes rule
 search-value bytes words rule L a =
     let s = plain-searches.two-searches rule bytes (settings words L) (settings words L) (a .range) (a .range) .first in
     go (plainSearch rule (settings words L) bytes .verdict) (s .true-value) (s .false-value)
@@ -41,7 +40,7 @@ search-value bytes words rule L a =
     go Unknown t f n = absurd (n refl)
 
 -- an add has passed every check, its pair was not held, and the book was not full: it searches
-pub record Searches (bytes : List ℕ) (words rule : ℕ) (L : Limits) (B : Book) : Type 0 where
+pub record AddSearches (bytes : List ℕ) (words rule : ℕ) (L : Limits) (B : Book) : Type 0 where
   pub passed : AddPassed bytes words rule L B
   pub not-held : find bytes rule (used B) ≡ 0
   pub not-full : B .count < size B
@@ -50,7 +49,7 @@ pub record Searches (bytes : List ℕ) (words rule : ℕ) (L : Limits) (B : Book
 pub add-ways : (P : BookOutcome → Type 0) (bytes : List ℕ) (words rule : ℕ) (L : Limits) (B : Book)
     → ((n : ℕ) → P (refused B (suc n)))
     → ((v : ℕ) → AddPassed bytes words rule L B → find bytes rule (used B) ≡ suc v → P (holding B (suc v)))
-    → (Searches bytes words rule L B → P (searchingFor B bytes rule (searchedVerdict bytes words rule L)))
+    → (AddSearches bytes words rule L B → P (searchingFor B bytes rule (searchedVerdict bytes words rule L)))
     → P (addCall bytes words rule L B)
 unfolding addCall
 add-ways P bytes words rule L B turned held searched =
@@ -80,15 +79,14 @@ pub record Changed (c : BookCall) (B C : Book) : Type 0 where
   pub fits-still : Fits B → Fits C
 
 add-changed : (bytes : List ℕ) (words rule : ℕ) (L : Limits) (B : Book) → Changed (Add bytes words rule L) B (addCall bytes words rule L B .left)
-add-changed bytes words rule L B = add-ways (λ o. Changed c B (o .left)) bytes words rule L B (λ n. same) (λ v p e. same) (λ s. go s (searchedVerdict bytes words rule L) (search-value bytes words rule L (s .passed .accepted)))
+add-changed bytes words rule L B =
+    add-ways (λ o. Changed (Add bytes words rule L) B (o .left)) bytes words rule L B (λ n. same) (λ v p e. same)
+    (λ s. go s (searchedVerdict bytes words rule L) (search-value bytes words rule L (s .passed .accepted)))
   where
-    c : BookCall
-    c = Add bytes words rule L
-
     same : Changed (Add bytes words rule L) B B
     same = record { step = inl refl; fits-still = λ f. f }
 
-    go : Searches bytes words rule L B → (v : ℕ) → ((v ≡ 0 → ⊥) → v ≡ valueNumber bytes rule) → Changed (Add bytes words rule L) B (storedIn B bytes rule v)
+    go : AddSearches bytes words rule L B → (v : ℕ) → ((v ≡ 0 → ⊥) → v ≡ valueNumber bytes rule) → Changed (Add bytes words rule L) B (storedIn B bytes rule v)
     go s zero h = same
     go s (suc v) h =
         let w = record-length bytes (s .passed .accepted .loads) in
@@ -113,16 +111,14 @@ as-it-was (Add bytes words rule L) B = add-ways (λ o. (o .number ≡ 0 → ⊥)
 -- an add writes the 22 bytes at the count, or nothing
 pub add-writes : (bytes : List ℕ) (words rule : ℕ) (L : Limits) (B : Book) → AddWrites bytes words rule L B
 add-writes bytes words rule L B =
-    add-ways (λ o. (o .left ≡ B) ⊎ (o .left ≡ bookOf (take (B .count * 22) (B .bytes) ++ (bytes ++ ((rule * 64 + o .verdict * 16) ∷ drop (suc (B .count) * 22) (B .bytes)))) (suc (B .count))))
-    bytes words rule L B (λ n. inl refl) (λ v p e. inl refl) (λ s. go s (searchedVerdict bytes words rule L))
+    add-ways (λ o. (o .left ≡ B) ⊎ (o .left ≡ oneWritten B bytes rule (o .verdict))) bytes words rule L B (λ n. inl refl) (λ v p e. inl refl) (λ s. go s (searchedVerdict bytes words rule L))
   where
-    go : Searches bytes words rule L B → (v : ℕ)
-        → (storedIn B bytes rule v ≡ B) ⊎ (storedIn B bytes rule v ≡ bookOf (take (B .count * 22) (B .bytes) ++ (bytes ++ ((rule * 64 + v * 16) ∷ drop (suc (B .count) * 22) (B .bytes)))) (suc (B .count)))
+    go : AddSearches bytes words rule L B → (v : ℕ) → (storedIn B bytes rule v ≡ B) ⊎ (storedIn B bytes rule v ≡ oneWritten B bytes rule v)
     go s zero = inl refl
     go s (suc v) = inr (ap (λ x. bookOf x (suc (B .count))) (stored-bytes (newEntry bytes rule (suc v)) (B .count) (B .bytes) (omega (arith, s .not-full))))
 
 -- an add that searches, from the search's result
-pub add-by-search : (bytes : List ℕ) (words rule : ℕ) (L : Limits) (B : Book) (r : Result) → addRefusal bytes (nodes words) rule L B ≡ 0 → find bytes rule (used B) ≡ 0 → leb (size B) (B .count) ≡ false
-    → plainSearch rule (settings words L) bytes ≡ r → addCall bytes words rule L B ≡ searchingFor B bytes rule (verdictNumber (r .verdict))
+pub add-by-search : (bytes : List ℕ) (words rule : ℕ) (L : Limits) (B : Book) (r : Result) → addRefusal bytes (nodes words) rule L B ≡ 0 → find bytes rule (used B) ≡ 0
+    → leb (size B) (B .count) ≡ false → plainSearch rule (settings words L) bytes ≡ r → addCall bytes words rule L B ≡ searchingFor B bytes rule (verdictNumber (r .verdict))
 unfolding addCall
 add-by-search bytes words rule L B r a f l e = rw (a, f, l, e)

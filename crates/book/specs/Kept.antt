@@ -14,7 +14,7 @@ use Rattle.book.specs.Book.{Book, BookOutcome, used, holding, searchedVe
 use Rattle.book.specs.Lists.{BookCall, Lookup, Add, outcomeOf, afterCalls, emptyBook}
 use Rattle.book.specs.BookStatement.{valueNumber, BookStatement}
 use Rattle.book.specs.Passing.{Fits, LookupPassed, passes-lookup, record-length, used-stored, fits-stored}
-use Rattle.book.specs.Changes.{search-value, Searches, add-ways, lookup-ways, Step, changed, as-it-was}
+use Rattle.book.specs.Changes.{search-value, AddSearches, add-ways, lookup-ways, Step, changed, as-it-was}
 
 value-verdict : (bytes : List ℕ) (rule : ℕ) → IsVerdict (valueNumber bytes rule)
 value-verdict bytes rule = go (recordValue rule bytes)
@@ -76,18 +76,18 @@ unfolding lookupCall
 looked-up bytes rule B p = rw (passes-lookup bytes rule B p)
 
 -- after an add with a verdict: a lookup of the pair passes its checks and finds the verdict
-record Added (bytes : List ℕ) (rule : ℕ) (o : BookOutcome) : Type 0 where
+record Findable (bytes : List ℕ) (rule : ℕ) (o : BookOutcome) : Type 0 where
   pub passes : LookupPassed bytes rule (o .left)
   pub is-found : find bytes rule (used (o .left)) ≡ o .verdict
 
-added : (bytes : List ℕ) (words rule : ℕ) (L : Limits) (B : Book) → (addCall bytes words rule L B .verdict ≡ 0 → ⊥) → Added bytes rule (addCall bytes words rule L B)
-added bytes words rule L B =
-    add-ways (λ o. (o .verdict ≡ 0 → ⊥) → Added bytes rule o) bytes words rule L B
+findable : (bytes : List ℕ) (words rule : ℕ) (L : Limits) (B : Book) → (addCall bytes words rule L B .verdict ≡ 0 → ⊥) → Findable bytes rule (addCall bytes words rule L B)
+findable bytes words rule L B =
+    add-ways (λ o. (o .verdict ≡ 0 → ⊥) → Findable bytes rule o) bytes words rule L B
     (λ n z. absurd (z refl))
     (λ v p e z. record { passes = record { loaded = p .accepted .loads; rule-most = p .accepted .rule-most; book-fits = p .book-fits }; is-found = e })
     (λ s. go s (searchedVerdict bytes words rule L) (search-value bytes words rule L (s .passed .accepted)))
   where
-    go : Searches bytes words rule L B → (v : ℕ) → ((v ≡ 0 → ⊥) → v ≡ valueNumber bytes rule) → (v ≡ 0 → ⊥) → Added bytes rule (searchingFor B bytes rule v)
+    go : AddSearches bytes words rule L B → (v : ℕ) → ((v ≡ 0 → ⊥) → v ≡ valueNumber bytes rule) → (v ≡ 0 → ⊥) → Findable bytes rule (searchingFor B bytes rule v)
     go s zero h n = absurd (n refl)
     go s (suc v) h n =
         let a = s .passed .accepted in
@@ -106,13 +106,13 @@ book-statement buffer calls =
     record {
       found = λ bytes rule. lookup-ways (λ o. (o .verdict ≡ 0 → ⊥) → o .verdict ≡ valueNumber bytes rule) bytes rule B (λ n z. absurd (z refl)) (λ h. found-value bytes rule (used B) r);
       handed-out = λ bytes words rule L n.
-          let a = added bytes words rule L B n in
+          let a = findable bytes words rule L B n in
           let c = Add bytes words rule L in
           let fs = used (outcomeOf c B .left) in
           let s : All Right fs = right-still c (used B) fs (changed c B .step) r in
           sym (a .is-found) ∙ found-value bytes rule fs s (λ z. n (sym (a .is-found) ∙ z));
       kept = λ bytes words rule L later n.
-          let a = added bytes words rule L B n in
+          let a = findable bytes words rule L B n in
           let o = addCall bytes words rule L B in
           let C = afterCalls later (o .left) in
           let p : LookupPassed bytes rule C = record { loaded = a .passes .loaded; rule-most = a .passes .rule-most; book-fits = fits-after later (o .left) (a .passes .book-fits) } in

@@ -19,7 +19,8 @@ use Rattle.calls.specs.Refusing.{refused-by}
 use Rattle.searches.specs.Searches.{Limits, nodes, searchRefusal}
 use Rattle.searches.specs.Accepting.{Passed}
 use Rattle.entries.specs.Entries.{withEntries, find, newEntry, storing}
-use Rattle.book.specs.Book.{Book, bookOf, BookOutcome, bookOutcome, size, used, broken, refused, holding, searching, lookupRefusal, lookupCall, addRefusal, searchedVerdict, searchingFor, addCall, PoolAfterAdd}
+use Rattle.book.specs.Book.{Book, bookOf, BookOutcome, bookOutcome, size, used, broken, refused}
+use Rattle.book.specs.Book.{holding, searching, lookupRefusal, lookupCall, addRefusal, searchedVerdict, searchingFor, addCall, PoolAfterAdd}
 use Rattle.book.specs.Passing.{Fits, lookup-passed, AddPassed, add-passed, record-length}
 
 -- check 17
@@ -56,10 +57,10 @@ module _ (bytes : List ℕ) (rule : ℕ) (B : Book) where
   lookup-found e z f = rw (← e, z, f)
 
 -- a search and what it stores
-pub verdict-few : (v : Verdict) → verdictNumber v < 4
-verdict-few True = omega arith
-verdict-few False = omega arith
-verdict-few Unknown = omega arith
+pub number-few : (v : Verdict) → verdictNumber v < 4
+number-few True = omega arith
+number-few False = omega arith
+number-few Unknown = omega arith
 
 module _ (B : Book) (bytes : List ℕ) (rule : ℕ) where
   pub none-stored : {v n : ℕ} → v ≡ n → v ≡ 0 → searching B 0 ≡ searchingFor B bytes rule n

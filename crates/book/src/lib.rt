@@ -95,7 +95,8 @@ fn search_and_store(
     l: SearchLimits,
 ) -> Added
     requires { ⌜ Passed (now bytes) (start .words) (length (now words)) rule (limitsOf l) × (count * 22 + 22 ≤ length (now book)) ⌝ }
-    ensures { λ r. ⌜ added r (now (book .exit)) count ≡ searchingFor (bookOf (now (book .entry)) count) (now (bytes .entry)) rule (searchedVerdict (now (bytes .entry)) (length (now (words .entry))) rule (limitsOf l)) ⌝ }
+    ensures { λ r. ⌜ added r (now (book .exit)) count ≡
+        searchingFor (bookOf (now (book .entry)) count) (now (bytes .entry)) rule (searchedVerdict (now (bytes .entry)) (length (now (words .entry))) rule (limitsOf l)) ⌝ }
     ensures pool { λ r. ⌜ PoolAfterAdd (added r (now (book .exit)) count .searched) (now (words .entry)) (now (words .exit)) ⌝ }
 {
     let result = searches::search_accepted(start, words, rule, l);

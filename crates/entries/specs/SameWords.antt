@@ -71,7 +71,10 @@ module _ (book : List ℕ) (at : ℕ) (bytes : List ℕ) where
     differ : (k : ℕ) → k ≤ 13 → (lowFirst book (at + k) 8 ≡ lowFirst bytes k 8 → ⊥) → (b : Bool) → b ≡ sameBytes (recordAt book at) bytes → false ≡ b
     differ k l n false e = refl
     differ k l n true e =
-        absurd (n (alike-lowFirst book bytes (at + k) k 8 (λ i h. let s : at + k + i ≡ at + (k + i) = omega arith in rw s (sym (its-byte (k + i) (omega arith)) ∙ ap (λ l. getD l (k + i) 0) (same-equal (recordAt book at) bytes (sym e))))))
+        absurd (n (word-same k (λ i h. sym (its-byte (k + i) (omega arith)) ∙ ap (λ l. getD l (k + i) 0) (same-equal (recordAt book at) bytes (sym e)))))
+      where
+        word-same : (k : ℕ) → ((i : ℕ) → i < 8 → getD book (at + (k + i)) 0 ≡ getD bytes (k + i) 0) → lowFirst book (at + k) 8 ≡ lowFirst bytes k 8
+        word-same k g = alike-lowFirst book bytes (at + k) k 8 (λ i h. let s : at + k + i ≡ at + (k + i) = omega arith in rw s (g i h))
 
     pub same-word : Bytes book → Bytes bytes → (k : ℕ) → k ≤ 13 → (b : Bool) → b ≡ eqb (lowFirst book (at + k) 8) (lowFirst bytes k 8) → SameWord k b
     same-word p q k l true e = lowFirst-alike book bytes p q (at + k) k 8 (eqb-true _ _ (sym e))

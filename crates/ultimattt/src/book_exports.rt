@@ -58,8 +58,10 @@ pub extern "C" fn uttt_book_add(
     budget: u64,
     interval: u64,
 ) -> AddAnswer
-    ensures { λ r. ⌜ (let o = addCall (now (bytes .entry)) (length (now (words .entry))) rule (limits limit budget interval) (bookOf (now (book .entry)) count) in bookOutcome (r .code) (r .index) (r .verdict) (o .searched) (bookOf (now (book .exit)) (r .count)) ≡ o) ⌝ }
-    ensures pool { λ r. ⌜ PoolAfterAdd (addCall (now (bytes .entry)) (length (now (words .entry))) rule (limits limit budget interval) (bookOf (now (book .entry)) count) .searched) (now (words .entry)) (now (words .exit)) ⌝ }
+    ensures { λ r. ⌜ (let o = addCall (now (bytes .entry)) (length (now (words .entry))) rule (limits limit budget interval) (bookOf (now (book .entry)) count) in
+        bookOutcome (r .code) (r .index) (r .verdict) (o .searched) (bookOf (now (book .exit)) (r .count)) ≡ o) ⌝ }
+    ensures pool { λ r. ⌜ PoolAfterAdd
+        (addCall (now (bytes .entry)) (length (now (words .entry))) rule (limits limit budget interval) (bookOf (now (book .entry)) count) .searched) (now (words .entry)) (now (words .exit)) ⌝ }
 {
     let l = SearchLimits {
         limit,

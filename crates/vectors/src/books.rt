@@ -168,6 +168,16 @@ fn settle_add(s: &[u8], at: usize, count: u64, got: AddAnswer) -> Outcome {
     searches::if_also(outcome, got.count == want)
 }
 
+// The first word of a pool that an add may not write. A True or False with the count as it was is of a pair that was held, not searched for: then it is the first of all.
+fn closed_after_add(got: AddAnswer, count: u64, words: usize) -> usize {
+    if got.count == count {
+        if got.verdict != 0 {
+            return 0;
+        }
+    }
+    searches::closed_from(got.code, words)
+}
+
 // `book add WHO RECORD RULE POOL-NODES LIMIT BUDGET INTERVAL => VERDICT COUNT`, from the pool on.
 fn add(
     s: &[u8],
@@ -199,7 +209,7 @@ fn add(
     let outcome = settle_add(s, x.place, before, got);
     searches::if_also(
         outcome,
-        fields::untouched(&pool, searches::closed_from(got.code, words)),
+        fields::untouched(&pool, closed_after_add(got, before, words)),
     )
 }
 

@@ -24,7 +24,8 @@ returns c =
     let late = c .before .before in
     let broken = late .before in
     let accepted = broken .before .before in
-    (add-code _ _ _ _ _ (accepted .accept .ensures .0) (broken .broken .ensures) (late .refuses .ensures) (c .first .ensures), λ z. accepted .accept .ensures .1 (add-loaded _ _ _ (c .first .ensures) z))
+    let checks = c .first .ensures in
+    (add-code _ _ _ _ _ (accepted .accept .ensures .0) (broken .broken .ensures) (late .refuses .ensures) checks, λ z. accepted .accept .ensures .1 (add-loaded _ _ _ checks z))
 
 pub accept-add-spec : {M : Type 1} → statement M
 accept-add-spec = tie.close (tie.spec accept-requires broken-requires refuses-requires slice-aggregate-first first-requires returns)

@@ -7,7 +7,7 @@ use Rattle.prove.specs.Numbers.{verdict, verdictNumber}
 use Rattle.searches.specs.Accepting.{accepts}
 use Rattle.book.specs.Book.{bookOf}
 use Rattle.book.specs.Passing.{record-length}
-use Rattle.book.specs.Ways.{verdict-few, none-stored, one-stored}
+use Rattle.book.specs.Ways.{number-few, none-stored, one-stored}
 use borrow.Author.Needs.{needs}
 use Rattle.book.proofs.search_and_store.Statement.{statement}
 use Rattle.book.proofs.search_and_store.Tie as tie
@@ -19,7 +19,7 @@ number-requires : tie.Need-number-requires
 number-requires c κs = search needs
 
 cast-v : tie.Need-cast-v
-cast-v c = let h : c .number .result < 4 = rw (c .number .ensures) (verdict-few (verdict (c .before .before .before .search-accepted .result .verdict))) in omega arith
+cast-v c = let h : c .number .result < 4 = rw (c .number .ensures) (number-few (verdict (c .before .before .before .search-accepted .result .verdict))) in omega arith
 
 same-length : tie.Need-same-length
 same-length c = search needs
@@ -38,7 +38,7 @@ store-requires c κs =
     let done = counted .before .before .before in
     let start = done .before .before .before .before .before in
     let a = accepts _ _ _ _ (start .pre .0 .none) in
-    let few : counted .number .result < 4 = rw (counted .number .ensures) (verdict-few (verdict (done .search-accepted .result .verdict))) in
+    let few : counted .number .result < 4 = rw (counted .number .ensures) (number-few (verdict (done .search-accepted .result .verdict))) in
     (record-length _ (a .loads), start .pre .1, omega (arith, a .rule-most), few)
 
 add-t18 : tie.Need-add-t18

@@ -40,8 +40,8 @@ put-entry-requires c κs = search needs
 settle-add-requires : tie.Need-settle-add-requires
 settle-add-requires c κs = search needs
 
-closed-from-requires : tie.Need-closed-from-requires
-closed-from-requires c κs = search needs
+closed-after-add-requires : tie.Need-closed-after-add-requires
+closed-after-add-requires c κs = search needs
 
 untouched-requires : tie.Need-untouched-requires
 untouched-requires c κs = search needs
@@ -69,7 +69,7 @@ add-spec =
     uttt-book-add-requires
     put-entry-requires
     settle-add-requires
-    closed-from-requires
+    closed-after-add-requires
     untouched-requires
     if-also-requires
     same-length
