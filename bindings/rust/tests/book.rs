@@ -1,5 +1,5 @@
-//! The book of verdicts (MANUAL, Calls): which entry is found, what an add writes, and what comes first when both calls
-//! are refused.
+//! The book of verdicts (MANUAL, Book of verdicts): which entry is found, what an add writes, and the order of the
+//! checks.
 
 mod common;
 

@@ -1,6 +1,6 @@
 -- What lookup and add of a book of verdicts answer and what they leave in the book, as functions of what comes in. The checks stand in their order (MANUAL,
--- Calls; Turned back), and a refusal leaves every byte and the count as they were. Rests on the entries, on the record's checks, and on search's checks and
--- settings.
+-- Calls; Turned back), and a refusal leaves every byte and the count as they were. Rests on the entries, on the record's and search's checks, and on the
+-- plain machine's result and a verdict's number.
 use mathlib.Core.Path.{_≡_}
 use mathlib.Core.Bool.{Bool, true, false, not, _||_}
 use mathlib.Core.List.{List, [], _∷_}
@@ -50,8 +50,8 @@ bookOutcome n i v s B = record { number = n; index = i; verdict = v; searched = 
 abbrev pub refused : Book → ℕ → BookOutcome
 refused B n = bookOutcome n 0 0 false B
 
-abbrev pub holding : Book → ℕ → BookOutcome
-holding B v = bookOutcome 0 0 v false B
+abbrev pub unsearched : Book → ℕ → BookOutcome
+unsearched B v = bookOutcome 0 0 v false B
 
 abbrev pub searching : Book → ℕ → BookOutcome
 searching B v = bookOutcome 0 0 v true B
@@ -61,7 +61,7 @@ unfoldable pub lookupRefusal : (bytes : List ℕ) (rule : ℕ) → Book → ℕ
 lookupRefusal bytes rule B = firstRefusal (refusal bytes ∷ refuses 10 (ltb lastRule rule) ∷ refuses 17 (broken B) ∷ [])
 
 unfoldable pub lookupCall : (bytes : List ℕ) (rule : ℕ) → Book → BookOutcome
-lookupCall bytes rule B = answerUnless (lookupRefusal bytes rule B) (refused B) (holding B (find bytes rule (used B)))
+lookupCall bytes rule B = answerUnless (lookupRefusal bytes rule B) (refused B) (unsearched B (find bytes rule (used B)))
 
 -- Add: search's checks, and 17.
 unfoldable pub addRefusal : (bytes : List ℕ) (capacity rule : ℕ) → Limits → Book → ℕ
@@ -75,15 +75,15 @@ abbrev pub storedIn : Book → (bytes : List ℕ) (rule verdict : ℕ) → Book
 storedIn B bytes rule zero = B
 storedIn B bytes rule (suc v) = bookOf (withEntries (storing (newEntry bytes rule (suc v)) (used B)) (B .bytes)) (suc (B .count))
 
-abbrev pub searchingFor : Book → (bytes : List ℕ) (rule verdict : ℕ) → BookOutcome
-searchingFor B bytes rule v = searching (storedIn B bytes rule v) v
+abbrev pub afterSearch : Book → (bytes : List ℕ) (rule verdict : ℕ) → BookOutcome
+afterSearch B bytes rule v = searching (storedIn B bytes rule v) v
 
 -- A pair that is held is answered by its verdict; otherwise comes check 18, the book is full; and then the search.
 unfoldable pub addCall : (bytes : List ℕ) (words rule : ℕ) → Limits → Book → BookOutcome
 addCall bytes words rule L B =
     answerUnless (addRefusal bytes (nodes words) rule L B) (refused B)
-    (answerUnless (find bytes rule (used B)) (holding B)
-    (answerUnless (refuses 18 (leb (size B) (B .count))) (refused B) (searchingFor B bytes rule (searchedVerdict bytes words rule L))))
+    (answerUnless (find bytes rule (used B)) (unsearched B)
+    (answerUnless (refuses 18 (leb (size B) (B .count))) (refused B) (afterSearch B bytes rule (searchedVerdict bytes words rule L))))
 
 -- The pool's words after an add: as they were, unless it searched; then those past the capacity are.
 abbrev pub PoolAfterAdd : (searched : Bool) (before after : List ℕ) → Type 0

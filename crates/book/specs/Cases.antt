@@ -1,4 +1,5 @@
--- Books of MANUAL, Positions to try, and ours, computed from the definitions. Rests on Lists, on plain's Cases for the records E, W and D and their searches.
+-- Books of MANUAL, Positions to try, and ours, computed from the definitions. Rests on Lists, Changes, on plain's
+-- Cases for the records E, W and D and their searches, and on StepThree for judge's settings.
 use mathlib.Core.Path.{_≡_, refl, ap, _∙_}
 use mathlib.Core.List.{List, [], _∷_, _++_}
 use Prim.Native.Nat.{ℕ}
@@ -10,7 +11,7 @@ use Rattle.plain.specs.Cases.{E, W, D, starred}
 use Rattle.searches.specs.Searches.{Limits, searchRefusal}
 use Rattle.searches.specs.StepThree.{pool, judging}
 use Rattle.entries.specs.Entries.{holdsRule, holdsPair, find}
-use Rattle.book.specs.Book.{Book, bookOf, BookOutcome, refused, holding, searching, lookupRefusal, lookupCall, addRefusal, addCall}
+use Rattle.book.specs.Book.{Book, bookOf, BookOutcome, refused, unsearched, searching, lookupRefusal, lookupCall, addRefusal, addCall}
 use Rattle.book.specs.Lists.{Lookup, Add, afterCalls}
 use Rattle.book.specs.Changes.{add-by-search}
 
@@ -23,12 +24,12 @@ entry bytes last = bytes ++ (last ∷ [])
 
 -- What a lookup of D under rule 1 finds in a buffer with a count.
 abbrev pub Finds : (buffer : List ℕ) (count verdict : ℕ) → Type 0
-Finds buffer count v = lookupCall D 1 (bookOf buffer count) ≡ holding (bookOf buffer count) v
+Finds buffer count v = lookupCall D 1 (bookOf buffer count) ≡ unsearched (bookOf buffer count) v
 
 abbrev pub Turns : (buffer : List ℕ) (count number : ℕ) → Type 0
 Turns buffer count n = lookupCall D 1 (bookOf buffer count) ≡ refused (bookOf buffer count) n
 
--- The program judge's settings, with a budget.
+-- The program judge's settings.
 abbrev pub judge : Limits
 judge = judging 100000
 
@@ -42,17 +43,17 @@ one = bookOf (entry D 0x60 ++ blank 22) 1
 abbrev pub both : Book
 both = bookOf (entry D 0x60 ++ entry D 0x90) 2
 
--- Each field is a case; D is drawn, and its last bytes are hexadecimal.
+-- Each field is a case. D is drawn.
 pub record BookCases : Type 0 where
   -- D is added under rule 1 and under rule 2: the same record under two rules
   pub D-1 : addCall D (pool 3276) 1 judge none ≡ searching one 2
   pub D-2 : addCall D (pool 3276) 2 judge one ≡ searching both 1
-  pub D-found-1 : lookupCall D 1 both ≡ holding both 2
-  pub D-found-2 : lookupCall D 2 both ≡ holding both 1
-  pub D-not-held : lookupCall D 0 both ≡ holding both 0
+  pub D-found-1 : lookupCall D 1 both ≡ unsearched both 2
+  pub D-found-2 : lookupCall D 2 both ≡ unsearched both 1
+  pub D-not-held : lookupCall D 0 both ≡ unsearched both 0
   -- added again: answered without a search, with another pool and no budget too, and in a full book
-  pub D-again : addCall D (pool 3276) 1 judge one ≡ holding one 2
-  pub D-again-full : addCall D (pool 1) 2 (judging 0) both ≡ holding both 1
+  pub D-again : addCall D (pool 3276) 1 judge one ≡ unsearched one 2
+  pub D-again-full : addCall D (pool 1) 2 (judging 0) both ≡ unsearched both 1
   -- W, won with one move, and E, which is Unknown with no budget: nothing is stored
   pub W-1 : addCall W (pool 2) 1 (judging 1) (bookOf (blank 22) 0) ≡ searching (bookOf (entry W 0x50) 1) 1
   pub W-short : addCall W (pool 1) 1 (judging 1) none ≡ searching none 0
@@ -69,6 +70,7 @@ pub record BookCases : Type 0 where
   pub first-false : Finds (entry D 0x60 ++ entry D 0x50) 2 2
   -- verdict bits 0 and 3 are no verdict, and the next entry of the pair counts; the four low bits are not looked at
   pub bits-0 : Finds (entry D 0x40) 1 0
+  pub after-bits-0 : Finds (entry D 0x40 ++ entry D 0x60) 2 2
   pub bits-3 : Finds (entry D 0x70) 1 0
   pub after-bits-3 : Finds (entry D 0x70 ++ entry D 0x60) 2 2
   pub low-bits : Finds (entry D 0x6F) 1 2
@@ -111,6 +113,7 @@ book-cases = record {
   first-true = refl;
   first-false = refl;
   bits-0 = refl;
+  after-bits-0 = refl;
   bits-3 = refl;
   after-bits-3 = refl;
   low-bits = refl;

@@ -1,40 +1,40 @@
--- What a call makes of the used entries: nothing, or one more, of a pair that was not held, with its value. Rests on Lists, Passing and the machine's theorem.
-use mathlib.Core.Path.{_≡_, refl, ap, _∙_}
-use mathlib.Core.Bool.{true, false}
+-- What a call makes of the used entries: nothing, or one more, of a pair that was not held, with its value; that a refused call changes nothing; and the promises
+-- of an add to any book. Rests on Lists, BookStatement, Passing and the machine's theorem.
+use mathlib.Core.Path.{_≡_, refl, sym, ap, _∙_}
+use mathlib.Core.Bool.{true, false, true≢false, false≢true}
 use mathlib.Core.List.{List}
 use mathlib.Core.Logic.{_⊎_, inl, inr}
 use Prim.Native.Nat.{ℕ, zero, suc, _<_}
 use native.Mathlib.Omega.{arith}
 use borrow.Author.Tests.{leb-false}
 use lib.Dec.{leb}
+use lib.ListN.{length}
+use Rattle.rules.specs.Checks.{loads}
 use Rattle.rules.specs.Refusals.{refuses}
 use Rattle.rules.specs.RefusalLaws.{passes-check}
 use Rattle.machine.specs.Machine.{Result, Verdict, True, False, Unknown}
 use Rattle.prove.specs.Numbers.{verdictNumber}
 use Rattle.plain.specs.Plain.{recordValue, plainSearch}
 use Rattle.plain.specs.TwoSearches as plain-searches
-use Rattle.calls.specs.Calls.{answerUnless}
-use Rattle.searches.specs.Searches.{Limits, nodes, settings}
+use Rattle.calls.specs.Calls.{valueNumber}
+use Rattle.calls.specs.Refusing.{refused-by, by-number}
+use Rattle.searches.specs.Searches.{Limits, nodes, settings, Answered, searchCall}
 use Rattle.searches.specs.Accepting.{Accepts}
+use Rattle.searches.specs.SearchAnswers.{answered}
 use Rattle.entries.specs.Entries.{Entry, find, newEntry, storing}
 use Rattle.entries.specs.Buffers.{stored-bytes}
-use Rattle.book.specs.Book.{Book, bookOf, BookOutcome, size, used, refused, holding, lookupRefusal, lookupCall, addRefusal, searchedVerdict, storedIn, searchingFor, addCall}
+use Rattle.book.specs.Book.{Book, bookOf, BookOutcome, size, used, refused, unsearched, lookupRefusal, lookupCall, addRefusal, searchedVerdict, storedIn, afterSearch, addCall}
 use Rattle.book.specs.Lists.{BookCall, Lookup, Add, outcomeOf}
-use Rattle.book.specs.BookStatement.{valueNumber, oneWritten, AddWrites}
-use Rattle.book.specs.Passing.{Fits, AddPassed, add-passed, record-length, used-stored, fits-stored}
-
--- an answer by the number that decides it
-pub by-number : (P : BookOutcome → Type 0) (n : ℕ) (r : ℕ → BookOutcome) (o : BookOutcome) → ((m : ℕ) → n ≡ suc m → P (r (suc m))) → (n ≡ 0 → P o) → P (answerUnless n r o)
-by-number P zero r o p q = q refl
-by-number P (suc n) r o p q = p n refl
+use Rattle.book.specs.BookStatement.{oneWritten, AddStatement}
+use Rattle.book.specs.Passing.{Fits, AddPassed, add-passed, used-stored, fits-stored}
 
 -- a search's verdict is the value
-pub search-value : (bytes : List ℕ) (words rule : ℕ) (L : Limits) → Accepts bytes words rule L → let v = searchedVerdict bytes words rule L in (v ≡ 0 → ⊥) → v ≡ valueNumber bytes rule
+pub search-value : (bytes : List ℕ) (words rule : ℕ) (L : Limits) → Accepts bytes words rule L → let v = searchedVerdict bytes words rule L in (v ≡ 0 → ⊥) → v ≡ valueNumber rule bytes
 search-value bytes words rule L a =
     let s = plain-searches.two-searches rule bytes (settings words L) (settings words L) (a .range) (a .range) .first in
     go (plainSearch rule (settings words L) bytes .verdict) (s .true-value) (s .false-value)
   where
-    go : (v : Verdict) → (v ≡ True → recordValue rule bytes ≡ true) → (v ≡ False → recordValue rule bytes ≡ false) → (verdictNumber v ≡ 0 → ⊥) → verdictNumber v ≡ valueNumber bytes rule
+    go : (v : Verdict) → (v ≡ True → recordValue rule bytes ≡ true) → (v ≡ False → recordValue rule bytes ≡ false) → (verdictNumber v ≡ 0 → ⊥) → verdictNumber v ≡ valueNumber rule bytes
     go True t f n = rw (t refl)
     go False t f n = rw (f refl)
     go Unknown t f n = absurd (n refl)
@@ -48,34 +48,34 @@ pub record AddSearches (bytes : List ℕ) (words rule : ℕ) (L : Limits) (B : B
 -- any fact of an add's outcome, by the three ways that an add can go: refused, held, searched
 pub add-ways : (P : BookOutcome → Type 0) (bytes : List ℕ) (words rule : ℕ) (L : Limits) (B : Book)
     → ((n : ℕ) → P (refused B (suc n)))
-    → ((v : ℕ) → AddPassed bytes words rule L B → find bytes rule (used B) ≡ suc v → P (holding B (suc v)))
-    → (AddSearches bytes words rule L B → P (searchingFor B bytes rule (searchedVerdict bytes words rule L)))
+    → ((v : ℕ) → AddPassed bytes words rule L B → find bytes rule (used B) ≡ suc v → P (unsearched B (suc v)))
+    → (AddSearches bytes words rule L B → P (afterSearch B bytes rule (searchedVerdict bytes words rule L)))
     → P (addCall bytes words rule L B)
 unfolding addCall
 add-ways P bytes words rule L B turned held searched =
     by-number P (addRefusal bytes (nodes words) rule L B) (refused B) _ (λ n e. turned n)
     (λ h. let p = add-passed bytes words rule L B h in
-    by-number P (find bytes rule (used B)) (holding B) _ (λ v e. held v p e)
+    by-number P (find bytes rule (used B)) (unsearched B) _ (λ v e. held v p e)
     (λ z. by-number P (refuses 18 (leb (size B) (B .count))) (refused B) _ (λ n e. turned n)
     (λ q. searched (record { passed = p; not-held = z; not-full = leb-false (size B) (B .count) (passes-check 17 _ q) }))))
 
 pub lookup-ways : (P : BookOutcome → Type 0) (bytes : List ℕ) (rule : ℕ) (B : Book) → ((n : ℕ) → P (refused B (suc n)))
-    → (lookupRefusal bytes rule B ≡ 0 → P (holding B (find bytes rule (used B)))) → P (lookupCall bytes rule B)
+    → (lookupRefusal bytes rule B ≡ 0 → P (unsearched B (find bytes rule (used B)))) → P (lookupCall bytes rule B)
 unfolding lookupCall
 lookup-ways P bytes rule B turned looked = by-number P (lookupRefusal bytes rule B) (refused B) _ (λ n e. turned n) looked
 
 -- what a call may make of the used entries
-pub record Stored (bytes : List ℕ) (rule : ℕ) (es fs : List Entry) : Type 0 where
+pub record OneMore (bytes : List ℕ) (rule : ℕ) (es fs : List Entry) : Type 0 where
   pub not-held : find bytes rule es ≡ 0
-  pub one-more : fs ≡ storing (newEntry bytes rule (valueNumber bytes rule)) es
+  pub is : fs ≡ storing (newEntry bytes rule (valueNumber rule bytes)) es
 
-abbrev pub Step : BookCall → (es fs : List Entry) → Type 0
-Step (Lookup bytes rule) es fs = fs ≡ es
-Step (Add bytes words rule L) es fs = (fs ≡ es) ⊎ Stored bytes rule es fs
+abbrev pub Change : BookCall → (es fs : List Entry) → Type 0
+Change (Lookup bytes rule) es fs = fs ≡ es
+Change (Add bytes words rule L) es fs = (fs ≡ es) ⊎ OneMore bytes rule es fs
 
 -- and it leaves a book that fits as one that fits
 pub record Changed (c : BookCall) (B C : Book) : Type 0 where
-  pub step : Step c (used B) (used C)
+  pub step : Change c (used B) (used C)
   pub fits-still : Fits B → Fits C
 
 add-changed : (bytes : List ℕ) (words rule : ℕ) (L : Limits) (B : Book) → Changed (Add bytes words rule L) B (addCall bytes words rule L B .left)
@@ -86,13 +86,13 @@ add-changed bytes words rule L B =
     same : Changed (Add bytes words rule L) B B
     same = record { step = inl refl; fits-still = λ f. f }
 
-    go : AddSearches bytes words rule L B → (v : ℕ) → ((v ≡ 0 → ⊥) → v ≡ valueNumber bytes rule) → Changed (Add bytes words rule L) B (storedIn B bytes rule v)
+    go : AddSearches bytes words rule L B → (v : ℕ) → ((v ≡ 0 → ⊥) → v ≡ valueNumber rule bytes) → Changed (Add bytes words rule L) B (storedIn B bytes rule v)
     go s zero h = same
     go s (suc v) h =
-        let w = record-length bytes (s .passed .accepted .loads) in
+        let w = loads bytes (s .passed .accepted .loads) .bytes in
         let f = s .passed .book-fits in
         record {
-          step = inr (record { not-held = s .not-held; one-more = used-stored B f bytes rule v w ∙ ap (λ x. storing (newEntry bytes rule x) (used B)) (h (λ q. omega arith)) });
+          step = inr (record { not-held = s .not-held; is = used-stored B f bytes rule v w ∙ ap (λ x. storing (newEntry bytes rule x) (used B)) (h (λ q. omega arith)) });
           fits-still = λ g. fits-stored B f bytes rule v w (s .not-full);
         }
 
@@ -108,17 +108,36 @@ pub as-it-was : (c : BookCall) (B : Book) → (outcomeOf c B .number ≡ 0 → �
 as-it-was (Lookup bytes rule) B = lookup-ways (λ o. (o .number ≡ 0 → ⊥) → o .left ≡ B) bytes rule B (λ n z. refl) (λ h z. refl)
 as-it-was (Add bytes words rule L) B = add-ways (λ o. (o .number ≡ 0 → ⊥) → o .left ≡ B) bytes words rule L B (λ n z. refl) (λ v p e z. refl) (λ s z. absurd (z refl))
 
--- an add writes the 22 bytes at the count, or nothing
-pub add-writes : (bytes : List ℕ) (words rule : ℕ) (L : Limits) (B : Book) → AddWrites bytes words rule L B
-add-writes bytes words rule L B =
-    add-ways (λ o. (o .left ≡ B) ⊎ (o .left ≡ oneWritten B bytes rule (o .verdict))) bytes words rule L B (λ n. inl refl) (λ v p e. inl refl) (λ s. go s (searchedVerdict bytes words rule L))
+-- a pair that is held
+held-answer : (bytes : List ℕ) (words rule : ℕ) (L : Limits) (B : Book) → addRefusal bytes (nodes words) rule L B ≡ 0 → (find bytes rule (used B) ≡ 0 → ⊥)
+    → addCall bytes words rule L B ≡ unsearched B (find bytes rule (used B))
+unfolding addCall
+held-answer bytes words rule L B e n = rw e (sym (refused-by (unsearched B) _ _ _ refl n))
+
+-- AN ADD, to any book
+pub add-statement : (bytes : List ℕ) (words rule : ℕ) (L : Limits) (B : Book) → AddStatement bytes words rule L B
+add-statement bytes words rule L B = record {
+  held = held-answer bytes words rule L B;
+  as-search = add-ways (λ o. o .searched ≡ true → (r : Result) → searchCall bytes words rule L ≡ Answered r → o .verdict ≡ verdictNumber (r .verdict)) bytes words rule L B
+      (λ n h. absurd (false≢true h)) (λ v p e h. absurd (false≢true h)) (λ s h r q. ap (λ (x : Result). verdictNumber (x .verdict)) (sym (answered bytes words rule L r q .1)));
+  stores = add-ways (λ o. o .searched ≡ true → (o .verdict ≡ 0 → ⊥) → (length bytes ≡ 21) × (B .count < size B) × (o .left ≡ oneWritten B bytes rule (o .verdict))) bytes words rule L B
+      (λ n h. absurd (false≢true h)) (λ v p e h. absurd (false≢true h)) (λ s h. one s (searchedVerdict bytes words rule L));
+  none-stored = add-ways (λ o. o .verdict ≡ 0 → o .left ≡ B) bytes words rule L B (λ n z. refl) (λ v p e z. refl) (λ s. none (searchedVerdict bytes words rule L));
+  unsearched-as-it-was = add-ways (λ o. o .searched ≡ false → o .left ≡ B) bytes words rule L B (λ n h. refl) (λ v p e h. refl) (λ s h. absurd (true≢false h));
+}
   where
-    go : AddSearches bytes words rule L B → (v : ℕ) → (storedIn B bytes rule v ≡ B) ⊎ (storedIn B bytes rule v ≡ oneWritten B bytes rule v)
-    go s zero = inl refl
-    go s (suc v) = inr (ap (λ x. bookOf x (suc (B .count))) (stored-bytes (newEntry bytes rule (suc v)) (B .count) (B .bytes) (omega (arith, s .not-full))))
+    one : AddSearches bytes words rule L B → (v : ℕ) → (v ≡ 0 → ⊥) → (length bytes ≡ 21) × (B .count < size B) × (storedIn B bytes rule v ≡ oneWritten B bytes rule v)
+    one s zero n = absurd (n refl)
+    one s (suc v) n =
+        let written = stored-bytes (newEntry bytes rule (suc v)) (B .count) (B .bytes) (omega (arith, s .not-full)) in
+        (loads bytes (s .passed .accepted .loads) .bytes, s .not-full, ap (λ x. bookOf x (suc (B .count))) written)
+
+    none : (v : ℕ) → v ≡ 0 → storedIn B bytes rule v ≡ B
+    none zero z = refl
+    none (suc v) z = absurd (omega arith)
 
 -- an add that searches, from the search's result
 pub add-by-search : (bytes : List ℕ) (words rule : ℕ) (L : Limits) (B : Book) (r : Result) → addRefusal bytes (nodes words) rule L B ≡ 0 → find bytes rule (used B) ≡ 0
-    → leb (size B) (B .count) ≡ false → plainSearch rule (settings words L) bytes ≡ r → addCall bytes words rule L B ≡ searchingFor B bytes rule (verdictNumber (r .verdict))
+    → leb (size B) (B .count) ≡ false → plainSearch rule (settings words L) bytes ≡ r → addCall bytes words rule L B ≡ afterSearch B bytes rule (verdictNumber (r .verdict))
 unfolding addCall
 add-by-search bytes words rule L B r a f l e = rw (a, f, l, e)

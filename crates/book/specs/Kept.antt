@@ -5,18 +5,20 @@ use mathlib.Core.Bool.{Bool, true, false, cond}
 use mathlib.Core.List.{List, [], _∷_}
 use mathlib.Core.Logic.{inl, inr}
 use Prim.Native.Nat.{ℕ, zero, suc}
+use Rattle.rules.specs.Checks.{loads}
 use Rattle.plain.specs.Plain.{recordValue}
+use Rattle.calls.specs.Calls.{valueNumber}
 use Rattle.searches.specs.Searches.{Limits}
 use Rattle.entries.specs.Entries.{Entry, ruleBits, verdictBits, find, newEntry}
 use Rattle.entries.specs.Buffers.{All, all-storing}
 use Rattle.entries.specs.Finding.{IsVerdict, verdict-few, new-rule, new-verdict, find-of, find-still, find-stored}
-use Rattle.book.specs.Book.{Book, BookOutcome, used, holding, searchedVerdict, searchingFor, lookupCall, addCall}
+use Rattle.book.specs.Book.{Book, BookOutcome, used, unsearched, searchedVerdict, afterSearch, lookupCall, addCall}
 use Rattle.book.specs.Lists.{BookCall, Lookup, Add, outcomeOf, afterCalls, emptyBook}
-use Rattle.book.specs.BookStatement.{valueNumber, BookStatement}
-use Rattle.book.specs.Passing.{Fits, LookupPassed, passes-lookup, record-length, used-stored, fits-stored}
-use Rattle.book.specs.Changes.{search-value, AddSearches, add-ways, lookup-ways, Step, changed, as-it-was}
+use Rattle.book.specs.BookStatement.{BookStatement}
+use Rattle.book.specs.Passing.{Fits, LookupPassed, passes-lookup, used-stored, fits-stored}
+use Rattle.book.specs.Changes.{search-value, AddSearches, add-ways, lookup-ways, Change, changed, as-it-was}
 
-value-verdict : (bytes : List ℕ) (rule : ℕ) → IsVerdict (valueNumber bytes rule)
+value-verdict : (bytes : List ℕ) (rule : ℕ) → IsVerdict (valueNumber rule bytes)
 value-verdict bytes rule = go (recordValue rule bytes)
   where
     go : (b : Bool) → IsVerdict (cond {A = ℕ} b 1 2)
@@ -25,35 +27,35 @@ value-verdict bytes rule = go (recordValue rule bytes)
 
 -- an entry with a verdict has the value of its record under its rule
 Right : Entry → Type 0
-Right e = IsVerdict (verdictBits (e .last)) → verdictBits (e .last) ≡ valueNumber (e .bytes) (ruleBits (e .last))
+Right e = IsVerdict (verdictBits (e .last)) → verdictBits (e .last) ≡ valueNumber (ruleBits (e .last)) (e .bytes)
 
-right-new : (bytes : List ℕ) (rule : ℕ) → Right (newEntry bytes rule (valueNumber bytes rule))
+right-new : (bytes : List ℕ) (rule : ℕ) → Right (newEntry bytes rule (valueNumber rule bytes))
 unfolding Right
 right-new bytes rule h =
-    let v = valueNumber bytes rule in
+    let v = valueNumber rule bytes in
     let few = verdict-few v (value-verdict bytes rule) in
-    new-verdict bytes rule v few ∙ ap (valueNumber bytes) (sym (new-rule bytes rule v few))
+    new-verdict bytes rule v few ∙ ap (λ r. valueNumber r bytes) (sym (new-rule bytes rule v few))
 
 -- every call keeps the stored verdicts right
-right-still : (c : BookCall) (es fs : List Entry) → Step c es fs → All Right es → All Right fs
+right-still : (c : BookCall) (es fs : List Entry) → Change c es fs → All Right es → All Right fs
 right-still (Lookup bytes rule) es fs e r = subst (All Right) (sym e) r
 right-still (Add bytes words rule L) es fs (inl e) r = subst (All Right) (sym e) r
-right-still (Add bytes words rule L) es fs (inr s) r = subst (All Right) (sym (s .one-more)) (all-storing Right es _ r (right-new bytes rule))
+right-still (Add bytes words rule L) es fs (inr s) r = subst (All Right) (sym (s .is)) (all-storing Right es _ r (right-new bytes rule))
 
 -- what is found among right verdicts is the value
-found-value : (bytes : List ℕ) (rule : ℕ) (es : List Entry) → All Right es → (find bytes rule es ≡ 0 → ⊥) → find bytes rule es ≡ valueNumber bytes rule
+found-value : (bytes : List ℕ) (rule : ℕ) (es : List Entry) → All Right es → (find bytes rule es ≡ 0 → ⊥) → find bytes rule es ≡ valueNumber rule bytes
 unfolding Right
 found-value bytes rule es r n =
     let f = find-of bytes rule Right es r n in
     let h = f .1 in
-    sym (f .2) ∙ f .3 (h .verdict) ∙ ap (λ b. valueNumber b (ruleBits (f .0 .last))) (h .record-same) ∙ ap (valueNumber bytes) (h .rule-same)
+    sym (f .2) ∙ f .3 (h .verdict) ∙ ap (valueNumber (ruleBits (f .0 .last))) (h .record-same) ∙ ap (λ r. valueNumber r bytes) (h .rule-same)
 
 -- every call keeps what is found for a pair that is held
 module _ (bytes : List ℕ) (rule : ℕ) where
-  found-still : (c : BookCall) (es fs : List Entry) → Step c es fs → (find bytes rule es ≡ 0 → ⊥) → find bytes rule fs ≡ find bytes rule es
+  found-still : (c : BookCall) (es fs : List Entry) → Change c es fs → (find bytes rule es ≡ 0 → ⊥) → find bytes rule fs ≡ find bytes rule es
   found-still (Lookup b r) es fs e n = ap (find bytes rule) e
   found-still (Add b words r L) es fs (inl e) n = ap (find bytes rule) e
-  found-still (Add b words r L) es fs (inr s) n = ap (find bytes rule) (s .one-more) ∙ find-still bytes rule es _ n
+  found-still (Add b words r L) es fs (inr s) n = ap (find bytes rule) (s .is) ∙ find-still bytes rule es _ n
 
   -- and so along a list of calls
   found-after : (cs : List BookCall) (B : Book) → (find bytes rule (used B) ≡ 0 → ⊥) → find bytes rule (used (afterCalls cs B)) ≡ find bytes rule (used B)
@@ -71,7 +73,7 @@ fits-after [] B f = f
 fits-after (c ∷ cs) B f = fits-after cs (outcomeOf c B .left) (changed c B .fits-still f)
 
 -- a lookup that passes its checks
-looked-up : (bytes : List ℕ) (rule : ℕ) (B : Book) → LookupPassed bytes rule B → lookupCall bytes rule B ≡ holding B (find bytes rule (used B))
+looked-up : (bytes : List ℕ) (rule : ℕ) (B : Book) → LookupPassed bytes rule B → lookupCall bytes rule B ≡ unsearched B (find bytes rule (used B))
 unfolding lookupCall
 looked-up bytes rule B p = rw (passes-lookup bytes rule B p)
 
@@ -87,24 +89,24 @@ findable bytes words rule L B =
     (λ v p e z. record { passes = record { loaded = p .accepted .loads; rule-most = p .accepted .rule-most; book-fits = p .book-fits }; is-found = e })
     (λ s. go s (searchedVerdict bytes words rule L) (search-value bytes words rule L (s .passed .accepted)))
   where
-    go : AddSearches bytes words rule L B → (v : ℕ) → ((v ≡ 0 → ⊥) → v ≡ valueNumber bytes rule) → (v ≡ 0 → ⊥) → Findable bytes rule (searchingFor B bytes rule v)
+    go : AddSearches bytes words rule L B → (v : ℕ) → ((v ≡ 0 → ⊥) → v ≡ valueNumber rule bytes) → (v ≡ 0 → ⊥) → Findable bytes rule (afterSearch B bytes rule v)
     go s zero h n = absurd (n refl)
     go s (suc v) h n =
         let a = s .passed .accepted in
         let f = s .passed .book-fits in
-        let w = record-length bytes (a .loads) in
+        let w = loads bytes (a .loads) .bytes in
         record {
           passes = record { loaded = a .loads; rule-most = a .rule-most; book-fits = fits-stored B f bytes rule v w (s .not-full) };
           is-found = ap (find bytes rule) (used-stored B f bytes rule v w) ∙ find-stored bytes rule (used B) (suc v) (subst IsVerdict (sym (h n)) (value-verdict bytes rule)) (s .not-held);
         }
 
--- THE STATEMENT, of any buffer and any calls
+-- THE BOOK, of any buffer and any calls
 pub book-statement : (buffer : List ℕ) (calls : List BookCall) → BookStatement buffer calls
 book-statement buffer calls =
     let B = afterCalls calls (emptyBook buffer) in
     let r : All Right (used B) = right-after calls (emptyBook buffer) tt in
     record {
-      found = λ bytes rule. lookup-ways (λ o. (o .verdict ≡ 0 → ⊥) → o .verdict ≡ valueNumber bytes rule) bytes rule B (λ n z. absurd (z refl)) (λ h. found-value bytes rule (used B) r);
+      found = λ bytes rule. lookup-ways (λ o. (o .verdict ≡ 0 → ⊥) → o .verdict ≡ valueNumber rule bytes) bytes rule B (λ n z. absurd (z refl)) (λ h. found-value bytes rule (used B) r);
       handed-out = λ bytes words rule L n.
           let a = findable bytes words rule L B n in
           let c = Add bytes words rule L in
@@ -116,6 +118,6 @@ book-statement buffer calls =
           let o = addCall bytes words rule L B in
           let C = afterCalls later (o .left) in
           let p : LookupPassed bytes rule C = record { loaded = a .passes .loaded; rule-most = a .passes .rule-most; book-fits = fits-after later (o .left) (a .passes .book-fits) } in
-          looked-up bytes rule C p ∙ ap (holding C) (found-after bytes rule later (o .left) (λ z. n (sym (a .is-found) ∙ z)) ∙ a .is-found);
+          looked-up bytes rule C p ∙ ap (unsearched C) (found-after bytes rule later (o .left) (λ z. n (sym (a .is-found) ∙ z)) ∙ a .is-found);
       refused-as-it-was = λ c. as-it-was c B;
     }

@@ -5,5 +5,5 @@ pub mod Answers
 pub mod Passing
 pub mod Changes
 pub mod Kept
-pub mod Ways
+pub mod ByCheck
 pub mod Cases

@@ -9,7 +9,6 @@ use borrow.Author.Tests.{eqb-true, ltb-false, le-ltb, not-false}
 use lib.Dec.{eqb, ltb}
 use lib.ListN.{length, drop, length-append}
 use Rattle.rules.specs.Record.{refusal}
-use Rattle.rules.specs.Checks.{loads}
 use Rattle.rules.specs.Refusals.{firstRefusal}
 use Rattle.rules.specs.RefusalLaws.{none-refuses, passes-check}
 use Rattle.rules.specs.Tests.{both-false}
@@ -62,10 +61,6 @@ unfolding addRefusal
 add-passed bytes words rule L B e =
     let s = none-refuses _ _ e in
     record { none = s .0; accepted = accepts bytes words rule L (s .0); book-fits = fits B (passes-check 16 (broken B) (none-refuses _ _ (s .1) .0)) }
-
--- a record that loads has 21 bytes
-pub record-length : (bytes : List ℕ) → refusal bytes ≡ 0 → length bytes ≡ 21
-record-length bytes e = loads bytes e .bytes
 
 -- a verdict stored in a book that fits and isn't full: its used entries, and it fits still
 module _ (B : Book) (f : Fits B) (bytes : List ℕ) (rule v : ℕ) (w : length bytes ≡ 21) where

@@ -7,7 +7,7 @@ ghost use Rattle.rules.specs.Record.{positionOf};
 ghost use Rattle.game.specs.Words.{Holds};
 ghost use Rattle.searches.specs.Answers.{limitsOf};
 ghost use Rattle.searches.specs.Accepting.{Passed};
-ghost use Rattle.book.specs.Book.{bookOf, broken, lookupRefusal, lookupCall, addRefusal, searchedVerdict, searchingFor, addCall, PoolAfterAdd};
+ghost use Rattle.book.specs.Book.{bookOf, broken, lookupRefusal, lookupCall, addRefusal, searchedVerdict, afterSearch, addCall, PoolAfterAdd};
 ghost use Rattle.book.specs.Answers.{looked, added};
 use calls::LAST_RULE;
 use calls::refusals;
@@ -17,16 +17,16 @@ use record::Loaded;
 use searches::SearchLimits;
 
 // The answer of lookup: the verdict, 1 True, 2 False, 0 not held; or the check that turned the call back.
-pub enum Found {
+pub enum LookupOutcome {
     Verdict(u8),
     Refused(u8),
 }
 
 // The answer of add: the verdict of a pair that was held; or a search's, 0 Unknown, and the count after it; or the check that turned the call back.
-pub enum Added {
+pub enum AddOutcome {
     Held(u8),
     Searched(u8, usize),
-    Turned(u8),
+    Refused(u8),
 }
 
 // Check 17: the buffer is no whole number of entries, or the count is above them.
@@ -53,14 +53,14 @@ fn check_lookup(book: &[u8], count: usize, bytes: &[u8], rule: u64) -> u8
 }
 
 // Looks a pair up.
-pub fn lookup(book: &[u8], count: usize, bytes: &[u8], rule: u64) -> Found
+pub fn lookup(book: &[u8], count: usize, bytes: &[u8], rule: u64) -> LookupOutcome
     ensures { λ r. ⌜ looked r (bookOf (now (book .entry)) count) ≡ lookupCall (now (bytes .entry)) rule (bookOf (now (book .entry)) count) ⌝ }
 {
     let code = check_lookup(book, count, bytes, rule);
     if code != 0 {
-        return Found::Refused(code);
+        return LookupOutcome::Refused(code);
     }
-    Found::Verdict(entries::find(book, count, bytes, rule))
+    LookupOutcome::Verdict(entries::find(book, count, bytes, rule))
 }
 
 // Add's checks up to 17, in their order, of a pool with so many nodes: 0 and the position, or the number of the first that refuses.
@@ -93,20 +93,20 @@ fn search_and_store(
     words: &mut [u32],
     rule: u64,
     l: SearchLimits,
-) -> Added
+) -> AddOutcome
     requires { ⌜ Passed (now bytes) (start .words) (length (now words)) rule (limitsOf l) × (count * 22 + 22 ≤ length (now book)) ⌝ }
     ensures { λ r. ⌜ added r (now (book .exit)) count ≡
-        searchingFor (bookOf (now (book .entry)) count) (now (bytes .entry)) rule (searchedVerdict (now (bytes .entry)) (length (now (words .entry))) rule (limitsOf l)) ⌝ }
+        afterSearch (bookOf (now (book .entry)) count) (now (bytes .entry)) rule (searchedVerdict (now (bytes .entry)) (length (now (words .entry))) rule (limitsOf l)) ⌝ }
     ensures pool { λ r. ⌜ PoolAfterAdd (added r (now (book .exit)) count .searched) (now (words .entry)) (now (words .exit)) ⌝ }
 {
     let result = searches::search_accepted(start, words, rule, l);
     let verdict = result.verdict;
     let v = verdict.number() as u8;
     if v == 0 {
-        return Added::Searched(0, count);
+        return AddOutcome::Searched(0, count);
     }
     entries::store(book, count, bytes, rule, v);
-    Added::Searched(v, count + 1)
+    AddOutcome::Searched(v, count + 1)
 }
 
 // Adds a pair: a verdict that is held is the answer; otherwise the pair is searched for, and a True or False stored.
@@ -117,21 +117,21 @@ pub fn add(
     words: &mut [u32],
     rule: u64,
     l: SearchLimits,
-) -> Added
+) -> AddOutcome
     ensures { λ r. ⌜ added r (now (book .exit)) count ≡ addCall (now (bytes .entry)) (length (now (words .entry))) rule (limitsOf l) (bookOf (now (book .entry)) count) ⌝ }
     ensures pool { λ r. ⌜ PoolAfterAdd (added r (now (book .exit)) count .searched) (now (words .entry)) (now (words .exit)) ⌝ }
 {
     let nodes = node_pool::capacity(words);
     let loaded = accept_add(book, count, bytes, nodes, rule, l);
     if loaded.code != 0 {
-        return Added::Turned(loaded.code);
+        return AddOutcome::Refused(loaded.code);
     }
     let held = entries::find(book, count, bytes, rule);
     if held != 0 {
-        return Added::Held(held);
+        return AddOutcome::Held(held);
     }
     if count >= book.len() / ENTRY {
-        return Added::Turned(18);
+        return AddOutcome::Refused(18);
     }
     let start = loaded.game;
     search_and_store(book, count, bytes, start, words, rule, l)

@@ -61,6 +61,10 @@ listed moves out = movesOutcome 0 0 (length moves) (moves ++ drop (length moves)
 unfoldable pub movesCall : (bytes out : List ℕ) → MovesOutcome
 movesCall bytes out = answerUnless (outputRefusal bytes (length out) 81) (λ n. movesOutcome n 0 0 out) (listed (legalMoves (positionOf bytes)) out)
 
+-- The number of a record's value under a rule: 1 True, 2 False.
+abbrev pub valueNumber : (rule : ℕ) (bytes : List ℕ) → ℕ
+valueNumber rule bytes = cond (recordValue rule bytes) 1 2
+
 -- Referee: 0 or the number of the refusal; the index, 0 always; the value for the side to move, 1 True, 2 False, and 0 with a refusal. Nothing is lent to be
 -- written.
 pub record RefereeOutcome : Type 0 where
@@ -76,4 +80,4 @@ unfoldable pub refereeRefusal : (bytes : List ℕ) (rule : ℕ) → ℕ
 refereeRefusal bytes rule = firstRefusal (refusal bytes ∷ refuses 10 (ltb lastRule rule) ∷ refuses 16 (ltb mostOpen (openCells (positionOf bytes))) ∷ [])
 
 unfoldable pub refereeCall : (bytes : List ℕ) (rule : ℕ) → RefereeOutcome
-refereeCall bytes rule = answerUnless (refereeRefusal bytes rule) (λ n. refereeOutcome n 0 0) (refereeOutcome 0 0 (cond (recordValue rule bytes) 1 2))
+refereeCall bytes rule = answerUnless (refereeRefusal bytes rule) (λ n. refereeOutcome n 0 0) (refereeOutcome 0 0 (valueNumber rule bytes))

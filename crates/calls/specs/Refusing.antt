@@ -26,6 +26,11 @@ module _ {A : Type 0} (refused : ℕ → A) (answer : A) where
   pub passed-all : (k : ℕ) → k ≡ 0 → answer ≡ answerUnless k refused answer
   passed-all k e = rw e
 
+-- a fact of the answer, by the number of the check
+pub by-number : {A : Type 0} (P : A → Type 0) (n : ℕ) (refused : ℕ → A) (answer : A) → ((m : ℕ) → n ≡ suc m → P (refused (suc m))) → (n ≡ 0 → P answer) → P (answerUnless n refused answer)
+by-number P zero refused answer p q = q refl
+by-number P (suc n) refused answer p q = p n refl
+
 -- the first i numbers are 0
 pub record Passing (ns : List ℕ) (i : ℕ) : Type 0 where
   pub within : i ≤ length ns

@@ -7,7 +7,7 @@ use lib.ListN.{length, getD, take, drop, length-append, length-drop}
 use lib.Seq.{take-at, drop-at, getD-at, take-add, take-suc, length-take-le}
 use Rattle.entries.specs.Entries.{Entry, entryOf, entries, allBytes, withEntries, storing}
 
--- every entry has a property; it has 21 record bytes
+-- every entry of a list has a property; an entry has 21 record bytes
 abbrev pub All : (Entry → Type 0) → List Entry → Type 0
 All P [] = Unit {0}
 All P (e ∷ es) = P e × All P es

@@ -18,7 +18,7 @@ ruleBits last = last / 64
 abbrev pub verdictBits : (last : ℕ) → ℕ
 verdictBits last = last / 16 % 4
 
--- The first n entries of a buffer, 22 bytes each.
+-- The entry at the front of a buffer; the first n entries, 22 bytes each.
 abbrev pub entryOf : List ℕ → Entry
 entryOf buffer = record { bytes = take 21 buffer; last = getD buffer 21 0 }
 

@@ -39,14 +39,14 @@ verdict-few v (inl p) = omega arith
 verdict-few v (inr p) = omega arith
 
 -- an entry that holds a pair has its record and rule, and a verdict
-pub record Held (bytes : List ℕ) (rule : ℕ) (e : Entry) : Type 0 where
+pub record EntryOfPair (bytes : List ℕ) (rule : ℕ) (e : Entry) : Type 0 where
   pub record-same : e .bytes ≡ bytes
   pub rule-same : ruleBits (e .last) ≡ rule
   pub verdict : IsVerdict (verdictBits (e .last))
 
-pub held : (bytes : List ℕ) (rule : ℕ) (e : Entry) → holdsPair bytes rule e ≡ true → Held bytes rule e
+pub entry-of-pair : (bytes : List ℕ) (rule : ℕ) (e : Entry) → holdsPair bytes rule e ≡ true → EntryOfPair bytes rule e
 unfolding holdsPair holdsRule
-held bytes rule e h =
+entry-of-pair bytes rule e h =
     let p = both-true (sameBytes (e .bytes) bytes) _ h in
     let q = both-true (eqb (ruleBits (e .last)) rule) (hasVerdict (e .last)) (p .1) in
     record { record-same = same-equal (e .bytes) bytes (p .0); rule-same = eqb-true (ruleBits (e .last)) rule (q .0); verdict = go (one-true _ _ (q .1)) }
@@ -55,8 +55,8 @@ held bytes rule e h =
     go (inl p) = inl (eqb-true _ 1 p)
     go (inr p) = inr (eqb-true _ 2 p)
 
-held-some : (bytes : List ℕ) (rule : ℕ) (e : Entry) → holdsPair bytes rule e ≡ true → verdictBits (e .last) ≡ 0 → ⊥
-held-some bytes rule e h = verdict-some (verdictBits (e .last)) (held bytes rule e h .verdict)
+pair-verdict : (bytes : List ℕ) (rule : ℕ) (e : Entry) → holdsPair bytes rule e ≡ true → verdictBits (e .last) ≡ 0 → ⊥
+pair-verdict bytes rule e h = verdict-some (verdictBits (e .last)) (entry-of-pair bytes rule e h .verdict)
 
 -- the first verdict, for any test
 module _ (t : Entry → Bool) where
@@ -109,17 +109,17 @@ module _ (bytes : List ℕ) (rule : ℕ) where
       go v (inr p) = rw p
 
   -- the entry that a verdict is found in
-  pub find-of : (P : Entry → Type 0) (es : List Entry) → All P es → (find bytes rule es ≡ 0 → ⊥) → (e : Entry) × Held bytes rule e × (verdictBits (e .last) ≡ find bytes rule es) × P e
+  pub find-of : (P : Entry → Type 0) (es : List Entry) → All P es → (find bytes rule es ≡ 0 → ⊥) → (e : Entry) × EntryOfPair bytes rule e × (verdictBits (e .last) ≡ find bytes rule es) × P e
   unfolding find
-  find-of P es h n = let f = first-of (holdsPair bytes rule) P es h n in (f .0, held bytes rule (f .0) (f .1), f .2, f .3)
+  find-of P es h n = let f = first-of (holdsPair bytes rule) P es h n in (f .0, entry-of-pair bytes rule (f .0) (f .1), f .2, f .3)
 
   -- a pair that is held is found as before with one entry more
   pub find-still : (es : List Entry) (x : Entry) → (find bytes rule es ≡ 0 → ⊥) → find bytes rule (storing x es) ≡ find bytes rule es
   unfolding find
-  find-still es x n = first-still (holdsPair bytes rule) (held-some bytes rule) es x n
+  find-still es x n = first-still (holdsPair bytes rule) (pair-verdict bytes rule) es x n
 
   -- a pair that is not held is found with the verdict that is stored
   pub find-stored : (es : List Entry) (v : ℕ) → IsVerdict v → find bytes rule es ≡ 0 → find bytes rule (storing (newEntry bytes rule v) es) ≡ v
   unfolding find
   find-stored es v h z =
-      first-new (holdsPair bytes rule) (held-some bytes rule) es (newEntry bytes rule v) (new-holds v h) z ∙ new-verdict bytes rule v (verdict-few v h)
+      first-new (holdsPair bytes rule) (pair-verdict bytes rule) es (newEntry bytes rule v) (new-holds v h) z ∙ new-verdict bytes rule v (verdict-few v h)

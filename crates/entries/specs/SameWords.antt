@@ -15,20 +15,20 @@ use Rattle.entries.specs.Finding.{same-equal, same-self}
 use Rattle.entries.specs.Scanning.{recordAt}
 
 -- the number that n bytes make from byte k on, the least significant first
-abbrev pub lowFirst : (bs : List ℕ) (k n : ℕ) → ℕ
-lowFirst bs k zero = 0
-lowFirst bs k (suc n) = getD bs k 0 + lowFirst bs (suc k) n * 256
+abbrev pub littleEndian : (bs : List ℕ) (k n : ℕ) → ℕ
+littleEndian bs k zero = 0
+littleEndian bs k (suc n) = getD bs k 0 + littleEndian bs (suc k) n * 256
 
 abbrev pub Bytes : List ℕ → Type 0
 Bytes bs = (i : ℕ) → getD bs i 0 < 256
 
 -- n bytes and j after them
-pub lowFirst-more : (bs : List ℕ) (k n j : ℕ) → lowFirst bs k (n + j) ≡ lowFirst bs k n + lowFirst bs (k + n) j * 256 ^ n
-lowFirst-more bs k zero j = rw (zero-add j, add-zero k, pow-zero 256) (omega arith)
-lowFirst-more bs k (suc n) j = rw (suc-add n j, lowFirst-more bs (suc k) n j, pow-succ' 256 n, add-suc k n, suc-add k n) (omega arith)
+pub littleEndian-more : (bs : List ℕ) (k n j : ℕ) → littleEndian bs k (n + j) ≡ littleEndian bs k n + littleEndian bs (k + n) j * 256 ^ n
+littleEndian-more bs k zero j = rw (zero-add j, add-zero k, pow-zero 256) (omega arith)
+littleEndian-more bs k (suc n) j = rw (suc-add n j, littleEndian-more bs (suc k) n j, pow-succ' 256 n, add-suc k n, suc-add k n) (omega arith)
 
-pub lowFirst-two : (bs : List ℕ) (k : ℕ) → getD bs k 0 + getD bs (k + 1) 0 * 256 ≡ lowFirst bs k 2
-lowFirst-two bs k = let e : k + 1 ≡ suc k = omega arith in rw e (omega arith)
+pub littleEndian-two : (bs : List ℕ) (k : ℕ) → getD bs k 0 + getD bs (k + 1) 0 * 256 ≡ littleEndian bs k 2
+littleEndian-two bs k = let e : k + 1 ≡ suc k = omega arith in rw e (omega arith)
 
 module _ (bs cs : List ℕ) where
   -- n bytes of the one list are the other's
@@ -36,19 +36,19 @@ module _ (bs cs : List ℕ) where
   Alike j k n = (i : ℕ) → i < n → getD bs (j + i) 0 ≡ getD cs (k + i) 0
 
   -- alike bytes make the same number, and only they do
-  pub alike-lowFirst : (j k n : ℕ) → Alike j k n → lowFirst bs j n ≡ lowFirst cs k n
-  alike-lowFirst j k zero h = refl
-  alike-lowFirst j k (suc n) h =
+  pub alike-littleEndian : (j k n : ℕ) → Alike j k n → littleEndian bs j n ≡ littleEndian cs k n
+  alike-littleEndian j k zero h = refl
+  alike-littleEndian j k (suc n) h =
       let a : getD bs j 0 ≡ getD cs k 0 = rw (← add-zero j, ← add-zero k) (h 0 (omega arith)) in
-      let b : lowFirst bs (suc j) n ≡ lowFirst cs (suc k) n = alike-lowFirst (suc j) (suc k) n (λ i l. rw (suc-add j i, suc-add k i, ← add-suc j i, ← add-suc k i) (h (suc i) (omega arith))) in
+      let b : littleEndian bs (suc j) n ≡ littleEndian cs (suc k) n = alike-littleEndian (suc j) (suc k) n (λ i l. rw (suc-add j i, suc-add k i, ← add-suc j i, ← add-suc k i) (h (suc i) (omega arith))) in
       rw (a, b)
 
-  pub lowFirst-alike : Bytes bs → Bytes cs → (j k n : ℕ) → lowFirst bs j n ≡ lowFirst cs k n → Alike j k n
-  lowFirst-alike p q j k zero e i l = absurd (omega arith)
-  lowFirst-alike p q j k (suc n) e zero l = rw (add-zero j, add-zero k) (omega (arith, p j, q k, e))
-  lowFirst-alike p q j k (suc n) e (suc i) l =
-      let t : lowFirst bs (suc j) n ≡ lowFirst cs (suc k) n = omega (arith, p j, q k, e) in
-      rw (add-suc j i, add-suc k i, ← suc-add j i, ← suc-add k i) (lowFirst-alike p q (suc j) (suc k) n t i (omega arith))
+  pub littleEndian-alike : Bytes bs → Bytes cs → (j k n : ℕ) → littleEndian bs j n ≡ littleEndian cs k n → Alike j k n
+  littleEndian-alike p q j k zero e i l = absurd (omega arith)
+  littleEndian-alike p q j k (suc n) e zero l = rw (add-zero j, add-zero k) (omega (arith, p j, q k, e))
+  littleEndian-alike p q j k (suc n) e (suc i) l =
+      let t : littleEndian bs (suc j) n ≡ littleEndian cs (suc k) n = omega (arith, p j, q k, e) in
+      rw (add-suc j i, add-suc k i, ← suc-add j i, ← suc-add k i) (littleEndian-alike p q (suc j) (suc k) n t i (omega arith))
 
 module _ (book : List ℕ) (at : ℕ) (bytes : List ℕ) where
   -- what a comparison of eight bytes from byte k on tells: they are alike, or the records are not the same
@@ -68,16 +68,16 @@ module _ (book : List ℕ) (at : ℕ) (bytes : List ℕ) where
     its-byte : (i : ℕ) → i < 21 → getD (recordAt book at) i 0 ≡ getD book (at + i) 0
     its-byte i h = getD-take 21 (drop at book) i 0 h ∙ getD-drop at book i 0
 
-    differ : (k : ℕ) → k ≤ 13 → (lowFirst book (at + k) 8 ≡ lowFirst bytes k 8 → ⊥) → (b : Bool) → b ≡ sameBytes (recordAt book at) bytes → false ≡ b
+    differ : (k : ℕ) → k ≤ 13 → (littleEndian book (at + k) 8 ≡ littleEndian bytes k 8 → ⊥) → (b : Bool) → b ≡ sameBytes (recordAt book at) bytes → false ≡ b
     differ k l n false e = refl
     differ k l n true e =
         absurd (n (word-same k (λ i h. sym (its-byte (k + i) (omega arith)) ∙ ap (λ l. getD l (k + i) 0) (same-equal (recordAt book at) bytes (sym e)))))
       where
-        word-same : (k : ℕ) → ((i : ℕ) → i < 8 → getD book (at + (k + i)) 0 ≡ getD bytes (k + i) 0) → lowFirst book (at + k) 8 ≡ lowFirst bytes k 8
-        word-same k g = alike-lowFirst book bytes (at + k) k 8 (λ i h. let s : at + k + i ≡ at + (k + i) = omega arith in rw s (g i h))
+        word-same : (k : ℕ) → ((i : ℕ) → i < 8 → getD book (at + (k + i)) 0 ≡ getD bytes (k + i) 0) → littleEndian book (at + k) 8 ≡ littleEndian bytes k 8
+        word-same k g = alike-littleEndian book bytes (at + k) k 8 (λ i h. let s : at + k + i ≡ at + (k + i) = omega arith in rw s (g i h))
 
-    pub same-word : Bytes book → Bytes bytes → (k : ℕ) → k ≤ 13 → (b : Bool) → b ≡ eqb (lowFirst book (at + k) 8) (lowFirst bytes k 8) → SameWord k b
-    same-word p q k l true e = lowFirst-alike book bytes p q (at + k) k 8 (eqb-true _ _ (sym e))
+    pub same-word : Bytes book → Bytes bytes → (k : ℕ) → k ≤ 13 → (b : Bool) → b ≡ eqb (littleEndian book (at + k) 8) (littleEndian bytes k 8) → SameWord k b
+    same-word p q k l true e = littleEndian-alike book bytes p q (at + k) k 8 (eqb-true _ _ (sym e))
     same-word p q k l false e = differ k l (λ t. false≢true (e ∙ eq-eqb _ _ t)) _ refl
 
     pub three-words : (b : Bool) → SameWord 0 true → SameWord 13 true → SameWord 8 b → b ≡ sameBytes (recordAt book at) bytes

@@ -51,7 +51,7 @@ module _ (book bytes : List ℕ) (at rule : ℕ) where
   unfolding holdsPair
   own-record e b h = rw (← e, getD-drop at book 21 0) h
 
--- none of the first i entries holds the pair
+-- what is found among all is found among those after the first i
 pub record Scanning (book bytes : List ℕ) (rule count i : ℕ) : Type 0 where
   pub within : i ≤ count
   pub same : find bytes rule (entries count book) ≡ find bytes rule (entries (count - i) (drop (i * 22) book))

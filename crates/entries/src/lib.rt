@@ -5,35 +5,35 @@ ghost use Prim.Native.Nat.{_+_, _*_, _≤_, _<_};
 ghost use lib.ListN.{length, drop};
 ghost use Rattle.entries.specs.Entries.{ruleBits, entryOf, entries, hasVerdict, sameBytes, holdsRule, holdsPair, find, newEntry, storing, withEntries};
 ghost use Rattle.entries.specs.Scanning.{recordAt};
-ghost use Rattle.entries.specs.SameWords.{lowFirst, SameWord};
+ghost use Rattle.entries.specs.SameWords.{littleEndian, SameWord};
 
 // The bytes of a record, and of an entry.
 const RECORD: usize = 21;
 
 pub const ENTRY: usize = 22;
 
-// Two bytes from byte k on, the least significant first. Words are only compared, and those of this order are read as one by the compiled code.
-fn two_low_first(bytes: &[u8], k: usize) -> u64
+// Two bytes from byte k on, the least significant first. Words are only compared, and in this order the compiled code reads each as one.
+fn two_little_endian(bytes: &[u8], k: usize) -> u64
     requires { ⌜ k + 2 ≤ length (now bytes) ⌝ }
-    ensures { λ r. ⌜ (r ≡ lowFirst (now (bytes .entry)) k 2) × (r < 65536) ⌝ }
+    ensures { λ r. ⌜ (r ≡ littleEndian (now (bytes .entry)) k 2) × (r < 65536) ⌝ }
 {
     bytes[k] as u64 + bytes[k + 1] as u64 * 256
 }
 
 // Four bytes from byte k on.
-fn four_low_first(bytes: &[u8], k: usize) -> u64
+fn four_little_endian(bytes: &[u8], k: usize) -> u64
     requires { ⌜ k + 4 ≤ length (now bytes) ⌝ }
-    ensures { λ r. ⌜ (r ≡ lowFirst (now (bytes .entry)) k 4) × (r < 4294967296) ⌝ }
+    ensures { λ r. ⌜ (r ≡ littleEndian (now (bytes .entry)) k 4) × (r < 4294967296) ⌝ }
 {
-    two_low_first(bytes, k) + two_low_first(bytes, k + 2) * 65536
+    two_little_endian(bytes, k) + two_little_endian(bytes, k + 2) * 65536
 }
 
 // A word: the eight bytes from byte k on.
-fn word_low_first(bytes: &[u8], k: usize) -> u64
+fn word_little_endian(bytes: &[u8], k: usize) -> u64
     requires { ⌜ k + 8 ≤ length (now bytes) ⌝ }
-    ensures { λ r. ⌜ r ≡ lowFirst (now (bytes .entry)) k 8 ⌝ }
+    ensures { λ r. ⌜ r ≡ littleEndian (now (bytes .entry)) k 8 ⌝ }
 {
-    four_low_first(bytes, k) + four_low_first(bytes, k + 4) * 4294967296
+    four_little_endian(bytes, k) + four_little_endian(bytes, k + 4) * 4294967296
 }
 
 // The eight bytes from byte k on, of the record of the entry at a place and of a record, are the same.
@@ -41,7 +41,7 @@ fn same_word(book: &[u8], at: usize, bytes: &[u8], k: usize) -> bool
     requires { ⌜ (length (now bytes) ≡ 21) × (at + 22 ≤ length (now book)) × (k ≤ 13) ⌝ }
     ensures { λ r. ⌜ SameWord (now (book .entry)) at (now (bytes .entry)) k r ⌝ }
 {
-    word_low_first(book, at + k) == word_low_first(bytes, k)
+    word_little_endian(book, at + k) == word_little_endian(bytes, k)
 }
 
 // The record of the entry at a place has these bytes: three words, from bytes 0, 13 and 8 on.

@@ -5,8 +5,8 @@ ghost use mathlib.Core.Bool.{false};
 ghost use lib.ListN.{length};
 ghost use Rattle.searches.specs.Searches.{limits};
 ghost use Rattle.book.specs.Book.{bookOf, bookOutcome, lookupCall, addCall, PoolAfterAdd};
-use book::Added;
-use book::Found;
+use book::AddOutcome;
+use book::LookupOutcome;
 use searches::SearchLimits;
 
 // The answer of lookup as C has it: code is 0 or the refusal's number; index is 0; verdict is 1 for True, 2 for False, 0 if the pair is not held and with a
@@ -24,12 +24,12 @@ pub extern "C" fn uttt_book_lookup(book: &[u8], count: u64, bytes: &[u8], rule: 
 {
     let answer = book::lookup(book, count as usize, bytes, rule);
     match answer {
-        Found::Verdict(v) => LookupAnswer {
+        LookupOutcome::Verdict(v) => LookupAnswer {
             code: 0,
             index: 0,
             verdict: v as u32,
         },
-        Found::Refused(n) => LookupAnswer {
+        LookupOutcome::Refused(n) => LookupAnswer {
             code: n as u32,
             index: 0,
             verdict: 0,
@@ -70,19 +70,19 @@ pub extern "C" fn uttt_book_add(
     };
     let answer = book::add(book, count as usize, bytes, words, rule, l);
     match answer {
-        Added::Held(v) => AddAnswer {
+        AddOutcome::Held(v) => AddAnswer {
             code: 0,
             index: 0,
             verdict: v as u32,
             count,
         },
-        Added::Searched(v, after) => AddAnswer {
+        AddOutcome::Searched(v, after) => AddAnswer {
             code: 0,
             index: 0,
             verdict: v as u32,
             count: after as u64,
         },
-        Added::Turned(n) => AddAnswer {
+        AddOutcome::Refused(n) => AddAnswer {
             code: n as u32,
             index: 0,
             verdict: 0,

@@ -4,7 +4,7 @@ use calls::table::{LARGEST_BUDGET, LARGEST_POOL};
 use calls::{BookCall, Call, Kind};
 use oracle::generate::{self, Random};
 
-/// The longest record, list of moves and output.
+/// The longest record, list of moves, output and book.
 pub const LONGEST: usize = 4_096;
 /// The largest pool, in nodes.
 pub const MOST_NODES: u64 = 2 * LARGEST_POOL;

@@ -1,8 +1,8 @@
-//! Libraries with one thing wrong in lookup or add, as `wrong` has them: the proved exports over another book or another
-//! count, or with something done before or after them.
+//! Libraries with one thing wrong in lookup or add, as `wrong` has them: the proved exports over another book or
+//! another count, or with something done before or after them.
 
 use crate::exports::{Exports, LIBRARY};
-use calls::book::ENTRY;
+use calls::book::{entry, ENTRY};
 use calls::record::LENGTH;
 use calls::table::{record_refusal, LARGEST_RULE};
 use std::slice::from_raw_parts;
@@ -72,8 +72,13 @@ impl Lookup {
     }
 
     fn is_broken(&self) -> bool {
-        !self.length.is_multiple_of(ENTRY) || self.count > self.entries()
+        is_broken(self.length, self.count)
     }
+}
+
+/// Check 17 fails.
+fn is_broken(length: usize, count: u64) -> bool {
+    !length.is_multiple_of(ENTRY) || count > (length / ENTRY) as u64
 }
 
 /// What an add is lent.
@@ -232,7 +237,7 @@ add!(add_18_last, |lent| {
 add!(add_unknown, |lent| {
     let a = lent.call();
     if a.code == 0 && a.verdict == 0 {
-        let entry = [&copy(lent.record, lent.n)[..], &[64 * lent.rule as u8]].concat();
+        let entry = entry(&copy(lent.record, lent.n), lent.rule, 0, 0);
         lent.byte(0).copy_from_nonoverlapping(entry.as_ptr(), ENTRY);
         return ffi::AddAnswer { count: lent.count + 1, ..a };
     }
@@ -253,8 +258,7 @@ add!(add_held_first, |lent| {
     lent.call()
 });
 add!(add_17_first, |lent| {
-    let broken = !lent.length.is_multiple_of(ENTRY) || lent.count > (lent.length / ENTRY) as u64;
-    if broken && record_refusal(&copy(lent.record, lent.n)).is_some() {
+    if is_broken(lent.length, lent.count) && record_refusal(&copy(lent.record, lent.n)).is_some() {
         return lent.refused(17);
     }
     lent.call()

@@ -1,7 +1,7 @@
 //! Both sides give the same answers, also where a pair is held.
 
 use crate::books::{entry, position, Book, Question, ENTRY};
-use crate::sides::{lookup, Side};
+use crate::sides::{lookup, SIDES};
 use calls::hex;
 use oracle::generate::Random;
 
@@ -22,7 +22,7 @@ pub struct Agreed {
 impl Agreed {
     /// Asks both sides of the first `count` entries; gives the verdict.
     fn ask(&mut self, bytes: &[u8], count: u64, q: &Question) -> Result<u32, String> {
-        let [ours, plain] = [Side::Ours, Side::Plain].map(|side| lookup(side, bytes, count, q));
+        let [ours, plain] = SIDES.map(|side| lookup(side, bytes, count, q));
         if ours != plain {
             let shown = format!("{} under rule {}, count {}", hex::show(&q.record), q.rule, count);
             return Err(format!("{}: ours {:?}, the loop {:?}", shown, ours, plain));

@@ -1,11 +1,10 @@
 //! Books in which no question's pair is held, so that a lookup goes through all of their entries.
 
+pub use calls::book::ENTRY;
 use calls::record::LENGTH;
 use oracle::generate::{reached, Random};
 use oracle::load;
 
-/// Bytes of an entry: a record's, and one with the rule and the verdict.
-pub const ENTRY: usize = LENGTH + 1;
 const SEED: u64 = 1;
 /// How many different questions a book of random positions is asked.
 const QUESTIONS: usize = 4;

@@ -5,7 +5,7 @@ use calls::{table, Answer, Book, BookCall, Call, Kind};
 use oracle::generate::{book, list, Random};
 use std::collections::{BTreeMap, BTreeSet};
 
-/// Of calls and of lists, those of a book.
+/// The book's line, if the call is one.
 fn lines(call: &Call) -> Option<&BookCall> {
     match call {
         Call::Book(line) => Some(line),
@@ -75,7 +75,7 @@ fn every_answer_is_reached() {
     assert!(["add 17", "add 18", "add True 1", "add True 0", "add False 0"].into_iter().all(often), "{:?}", seen);
 }
 
-/// From an empty book every verdict once stored is found, and a verdict found is that of a search without bounds.
+/// From an empty book every verdict once stored is found, and a verdict found is that of a search with ample bounds.
 #[test]
 fn what_is_stored_is_found() {
     let mut found = 0;

@@ -16,7 +16,7 @@ fn one_seed_gives_one_list() {
     assert_ne!(lists(5), lists(6));
 }
 
-/// Of each kind a list comes about as often as its lines are few.
+/// A book's list has many lines, so it is drawn less often.
 #[test]
 fn about_as_many_lines_of_each_kind_come() {
     let mut random = Random::new(1);

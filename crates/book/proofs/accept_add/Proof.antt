@@ -1,5 +1,7 @@
 -- `book::accept_add` meets its contract: search's checks, and 17 after them. Assumes nothing.
-use Rattle.book.specs.Ways.{add-code, add-loaded}
+use mathlib.Core.Path.{sym, _∙_}
+use Rattle.rules.specs.RefusalLaws.{none-refuses}
+use Rattle.book.specs.ByCheck.{add-code}
 use borrow.Author.Needs.{needs}
 use Rattle.book.proofs.accept_add.Statement.{statement}
 use Rattle.book.proofs.accept_add.Tie as tie
@@ -25,7 +27,7 @@ returns c =
     let broken = late .before in
     let accepted = broken .before .before in
     let checks = c .first .ensures in
-    (add-code _ _ _ _ _ (accepted .accept .ensures .0) (broken .broken .ensures) (late .refuses .ensures) checks, λ z. accepted .accept .ensures .1 (add-loaded _ _ _ checks z))
+    (add-code _ _ _ _ _ (accepted .accept .ensures .0) (broken .broken .ensures) (late .refuses .ensures) checks, λ z. accepted .accept .ensures .1 (none-refuses _ _ (sym checks ∙ z) .0))
 
 pub accept-add-spec : {M : Type 1} → statement M
 accept-add-spec = tie.close (tie.spec accept-requires broken-requires refuses-requires slice-aggregate-first first-requires returns)

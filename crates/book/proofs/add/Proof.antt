@@ -4,7 +4,7 @@ use native.Mathlib.Omega.{arith}
 use lib.ListN.{length}
 use Rattle.searches.specs.Answers.{limitsOf}
 use Rattle.book.specs.Book.{bookOf}
-use Rattle.book.specs.Ways.{add-turned, add-scans, add-accepted, add-held, add-full, add-searched}
+use Rattle.book.specs.ByCheck.{add-turned, add-scans, add-accepted, add-held, add-full, add-searched}
 use borrow.Author.Needs.{needs}
 use Rattle.book.proofs.add.Statement.{statement}
 use Rattle.book.proofs.add.Tie as tie

@@ -1,5 +1,5 @@
 -- `book::check_lookup` meets its contract, check by check. Assumes nothing.
-use Rattle.book.specs.Ways.{lookup-code}
+use Rattle.book.specs.ByCheck.{lookup-code}
 use borrow.Author.Needs.{needs}
 use Rattle.book.proofs.check_lookup.Statement.{statement}
 use Rattle.book.proofs.check_lookup.Tie as tie

@@ -1,5 +1,5 @@
 -- `book::lookup` meets its contract: refused by a check, or what the scan found. Assumes nothing.
-use Rattle.book.specs.Ways.{lookup-turned, lookup-scans, lookup-found}
+use Rattle.book.specs.ByCheck.{lookup-turned, lookup-scans, lookup-found}
 use borrow.Author.Needs.{needs}
 use Rattle.book.proofs.lookup.Statement.{statement}
 use Rattle.book.proofs.lookup.Tie as tie

@@ -7,14 +7,14 @@ use Rattle.entries.specs.SameWords.{same-word}
 use Rattle.entries.proofs.same_word.Statement.{statement}
 use Rattle.entries.proofs.same_word.Tie as tie
 
-add-word-low-first : tie.Need-add-word-low-first
-add-word-low-first c = search needs
+add-word-little-endian : tie.Need-add-word-little-endian
+add-word-little-endian c = search needs
 
-word-low-first-requires : tie.Need-word-low-first-requires
-word-low-first-requires c κs = search needs
+word-little-endian-requires : tie.Need-word-little-endian-requires
+word-little-endian-requires c κs = search needs
 
-word-low-first-requires-2 : tie.Need-word-low-first-requires-2
-word-low-first-requires-2 c κs = search needs
+word-little-endian-requires-2 : tie.Need-word-little-endian-requires-2
+word-little-endian-requires-2 c κs = search needs
 
 returns : tie.Need-returns
 returns c =
@@ -30,7 +30,7 @@ returns c =
     (start .args .k)
     (start .pre .2)
     _
-    (ap₂ eqb (c .before .word-low-first .ensures) (c .word-low-first2 .ensures))
+    (ap₂ eqb (c .before .word-little-endian .ensures) (c .word-little-endian2 .ensures))
 
 pub same-word-spec : {M : Type 1} → statement M
-same-word-spec = tie.close (tie.spec add-word-low-first word-low-first-requires word-low-first-requires-2 returns)
+same-word-spec = tie.close (tie.spec add-word-little-endian word-little-endian-requires word-little-endian-requires-2 returns)

@@ -47,7 +47,7 @@ fn one_of(random: &mut Random, records: &[Vec<u8>]) -> Vec<u8> {
     }
 }
 
-/// A book without entries, or one with entries before the count, past it, or both.
+/// An empty book, or one with entries before the count, past it, or both.
 fn beginning(random: &mut Random, records: &[Vec<u8>]) -> BookCall {
     if random.once_in(2) {
         return BookCall::New { entries: random.pick(&[0, 1, 1, 2, 3, 4, 6, 9]) };

@@ -21,7 +21,7 @@ use calls::table::{open_cells, MOVES_ROOM, RECORD_ROOM};
 use calls::{Call, Kind};
 use settings::Settings;
 
-/// A list of a book's lines is drawn once in so many times that its kind is, since it has about as many lines.
+/// Of the times that the book's kind is drawn one in so many gives a list, which has about so many lines.
 const LINES_OF_A_BOOK: u64 = 16;
 
 /// A list of one of the given kinds; about as many lines of each kind come.

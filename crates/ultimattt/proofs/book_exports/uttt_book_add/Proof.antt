@@ -1,7 +1,7 @@
 -- `ultimattt::book_exports::uttt_book_add` meets its contract: the numbers are those of its answer. Assumes nothing.
 use mathlib.Core.Path.{sym, ap, _∙_}
 use Rattle.book.specs.Answers.{added}
-use Rattle.book.specs.Ways.{by-numbers, pool-after}
+use Rattle.book.specs.ByCheck.{by-numbers, pool-after}
 use borrow.Author.Needs.{needs}
 use Rattle.ultimattt.proofs.book_exports.uttt_book_add.Statement.{statement}
 use Rattle.ultimattt.proofs.book_exports.uttt_book_add.Tie as tie

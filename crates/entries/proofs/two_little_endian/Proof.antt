@@ -1,10 +1,10 @@
--- `entries::two_low_first` meets its contract: two bytes, each below 256. Assumes nothing.
+-- `entries::two_little_endian` meets its contract: two bytes, each below 256. Assumes nothing.
 use Prim.Native.Nat.{_+_}
 use native.Mathlib.Omega.{arith}
 use borrow.Author.Needs.{needs}
-use Rattle.entries.specs.SameWords.{lowFirst-two}
-use Rattle.entries.proofs.two_low_first.Statement.{statement}
-use Rattle.entries.proofs.two_low_first.Tie as tie
+use Rattle.entries.specs.SameWords.{littleEndian-two}
+use Rattle.entries.proofs.two_little_endian.Statement.{statement}
+use Rattle.entries.proofs.two_little_endian.Tie as tie
 
 shared-slice-read-result : tie.Need-shared-slice-read-result
 shared-slice-read-result c = search needs
@@ -32,7 +32,7 @@ add-result-2 c =
 returns : tie.Need-returns
 returns c =
     let k = c .before .before .args .k in
-    (lowFirst-two (c .before .before .args .bytes .now) k, omega (arith, c .before .shared-slice-known .given k, c .shared-slice-known2 .given (k + 1)))
+    (littleEndian-two (c .before .before .args .bytes .now) k, omega (arith, c .before .shared-slice-known .given k, c .shared-slice-known2 .given (k + 1)))
 
-pub two-low-first-spec : {M : Type 1} → statement M
-two-low-first-spec = tie.close (tie.spec shared-slice-read-result cast-result add-result shared-slice-read-result-2 cast-result-2 mul-result add-result-2 returns)
+pub two-little-endian-spec : {M : Type 1} → statement M
+two-little-endian-spec = tie.close (tie.spec shared-slice-read-result cast-result add-result shared-slice-read-result-2 cast-result-2 mul-result add-result-2 returns)

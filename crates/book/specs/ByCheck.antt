@@ -9,8 +9,8 @@ use borrow.Author.Tests.{ne-eqb, le-leb, lt-leb}
 use lib.Dec.{ltb}
 use lib.ListN.{length}
 use Rattle.rules.specs.Record.{positionOf, refusal}
+use Rattle.rules.specs.Checks.{loads}
 use Rattle.rules.specs.Refusals.{refuses, firstRefusal}
-use Rattle.rules.specs.RefusalLaws.{none-refuses}
 use Rattle.game.specs.Words.{Holds}
 use Rattle.machine.specs.Machine.{Verdict, True, False, Unknown}
 use Rattle.prove.specs.Numbers.{verdictNumber}
@@ -20,8 +20,8 @@ use Rattle.searches.specs.Searches.{Limits, nodes, searchRefusal}
 use Rattle.searches.specs.Accepting.{Passed}
 use Rattle.entries.specs.Entries.{withEntries, find, newEntry, storing}
 use Rattle.book.specs.Book.{Book, bookOf, BookOutcome, bookOutcome, size, used, broken, refused}
-use Rattle.book.specs.Book.{holding, searching, lookupRefusal, lookupCall, addRefusal, searchedVerdict, searchingFor, addCall, PoolAfterAdd}
-use Rattle.book.specs.Passing.{Fits, lookup-passed, AddPassed, add-passed, record-length}
+use Rattle.book.specs.Book.{unsearched, searching, lookupRefusal, lookupCall, addRefusal, searchedVerdict, afterSearch, addCall, PoolAfterAdd}
+use Rattle.book.specs.Passing.{Fits, lookup-passed, AddPassed, add-passed}
 
 -- check 17
 module _ (bytes : List ℕ) (count : ℕ) where
@@ -36,7 +36,7 @@ abbrev ToFind : (bytes : List ℕ) → Book → Type 0
 ToFind bytes B = (length bytes ≡ 21) × (B .count * 22 ≤ length (B .bytes))
 
 to-find : (bytes : List ℕ) (B : Book) → refusal bytes ≡ 0 → Fits B → ToFind bytes B
-to-find bytes B e f = (record-length bytes e, omega (arith, f .within))
+to-find bytes B e f = (loads bytes e .bytes, omega (arith, f .within))
 
 -- a lookup
 module _ (bytes : List ℕ) (rule : ℕ) (B : Book) where
@@ -52,7 +52,7 @@ module _ (bytes : List ℕ) (rule : ℕ) (B : Book) where
   pub lookup-scans : {n : ℕ} → n ≡ lookupRefusal bytes rule B → n ≡ 0 → ToFind bytes B
   lookup-scans e z = let p = lookup-passed bytes rule B (sym e ∙ z) in to-find bytes B (p .loaded) (p .book-fits)
 
-  pub lookup-found : {n v : ℕ} → n ≡ lookupRefusal bytes rule B → n ≡ 0 → v ≡ find bytes rule (used B) → holding B v ≡ lookupCall bytes rule B
+  pub lookup-found : {n v : ℕ} → n ≡ lookupRefusal bytes rule B → n ≡ 0 → v ≡ find bytes rule (used B) → unsearched B v ≡ lookupCall bytes rule B
   unfolding lookupCall
   lookup-found e z f = rw (← e, z, f)
 
@@ -63,11 +63,11 @@ number-few False = omega arith
 number-few Unknown = omega arith
 
 module _ (B : Book) (bytes : List ℕ) (rule : ℕ) where
-  pub none-stored : {v n : ℕ} → v ≡ n → v ≡ 0 → searching B 0 ≡ searchingFor B bytes rule n
+  pub none-stored : {v n : ℕ} → v ≡ n → v ≡ 0 → searching B 0 ≡ afterSearch B bytes rule n
   none-stored e z = rw (← e, z)
 
   pub one-stored : {n : ℕ} (v : ℕ) → v ≡ n → (v ≡ 0 → ⊥) → {after : List ℕ} → after ≡ withEntries (storing (newEntry bytes rule v) (used B)) (B .bytes)
-      → searching (bookOf after (B .count + 1)) v ≡ searchingFor B bytes rule n
+      → searching (bookOf after (B .count + 1)) v ≡ afterSearch B bytes rule n
   one-stored zero e z w = absurd (z refl)
   one-stored (suc v) e z w = rw (← e, w, add-one)
 
@@ -76,9 +76,6 @@ pub add-code : (bytes : List ℕ) (capacity rule : ℕ) (L : Limits) (B : Book) 
     → n ≡ firstRefusal (a ∷ d ∷ []) → n ≡ addRefusal bytes capacity rule L B
 unfolding addRefusal
 add-code bytes capacity rule L B ea et ed en = rw (en, ea, ed, et)
-
-pub add-loaded : (a d n : ℕ) → n ≡ firstRefusal (a ∷ d ∷ []) → n ≡ 0 → a ≡ 0
-add-loaded a d n e z = none-refuses _ _ (sym e ∙ z) .0
 
 module _ (bytes : List ℕ) (words rule : ℕ) (L : Limits) (B : Book) {n capacity : ℕ} (a : n ≡ addRefusal bytes capacity rule L B) (q : capacity ≡ nodes words) where
   its-code : n ≡ addRefusal bytes (nodes words) rule L B
@@ -99,20 +96,20 @@ module _ (bytes : List ℕ) (words rule : ℕ) (L : Limits) (B : Book) {n capaci
     add-accepted h = record { holds = h; none = passed .none }
 
     module _ {v : ℕ} (f : v ≡ find bytes rule (used B)) where
-      pub add-held : (v ≡ 0 → ⊥) → holding B v ≡ addCall bytes words rule L B
+      pub add-held : (v ≡ 0 → ⊥) → unsearched B v ≡ addCall bytes words rule L B
       unfolding addCall
-      add-held y = rw (← its-code, z) (refused-by (holding B) _ v _ f y)
+      add-held y = rw (← its-code, z) (refused-by (unsearched B) _ v _ f y)
 
       module _ (y : v ≡ 0) where
         pub add-full : size B ≤ B .count → refused B 18 ≡ addCall bytes words rule L B
         unfolding addCall
         add-full l = rw (← its-code, z, ← f, y, le-leb (size B) (B .count) l)
 
-        pub add-searched : B .count < size B → {o : BookOutcome} → o ≡ searchingFor B bytes rule (searchedVerdict bytes words rule L) → o ≡ addCall bytes words rule L B
+        pub add-searched : B .count < size B → {o : BookOutcome} → o ≡ afterSearch B bytes rule (searchedVerdict bytes words rule L) → o ≡ addCall bytes words rule L B
         unfolding addCall
         add-searched l s = rw (← its-code, z, ← f, y, lt-leb (size B) (B .count) l) s
 
--- an outcome by its numbers, where it is told apart whether there was a search; and the pool then
+-- an outcome whose numbers and book are known is the outcome; and the pool after it
 module _ {x o : BookOutcome} (e : x ≡ o) where
   pub by-numbers : bookOutcome (x .number) (x .index) (x .verdict) (o .searched) (x .left) ≡ o
   by-numbers = subst (λ (y : BookOutcome). bookOutcome (x .number) (x .index) (x .verdict) (y .searched) (x .left) ≡ y) e refl
