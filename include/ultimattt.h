@@ -4,18 +4,18 @@
  *
  * Buffers. A buffer is a pointer and a length: bytes for records, moves, outputs and books, 32-bit words for a pool.
  * All of them are the caller's: the library allocates nothing, frees nothing and keeps no pointer after a call. One
- * that is written (output, pool, the book of an add) may not overlap another buffer of the same call; record and moves
- * are only read, and two lists of moves may be the same memory. What an output or a pool held before decides nothing:
- * neither need be cleared. A pool is aligned as uint32_t is.
+ * that is written (output, pool, the book of an add or a publish) may not overlap another buffer of the same call;
+ * record and moves are only read, and two lists of moves may be the same memory. What an output or a pool held before
+ * decides nothing: neither need be cleared. A pool is aligned as uint32_t is.
  *
  * Length 0. The pointer is not followed and may be null. A record of length 0 is refused with 1, an output with 7, a
  * pool with 8; no moves is a list like any other, and a book of no bytes is one of no entries. A null pointer with
  * another length is the caller's error.
  *
- * Answers. Read code first. It is 0 (UTTT_OK), or the number of the first check that failed, the lowest of those that
- * do. With a refusal no byte of any buffer is written and every other field is 0 but two: index, and the count of an
- * add, which is then the one that came in. So verdict and cause mean nothing with a refusal. index is the place, from
- * 0, of the bad move with codes 11 to 15, and 0 elsewhere.
+ * Answers. Read code first. It is 0 (UTTT_OK), or the number of the first check that refuses, in the order in which the
+ * call checks (the table below the codes). With a refusal no byte of any buffer is written and every other field is 0
+ * but two: index, and the count of an add, which is then the one that came in. So verdict, cause and published mean
+ * nothing with a refusal. index is the place, from 0, of the bad move with codes 11 to 15, and 0 elsewhere.
  *
  * uttt_agreed_opening returns a length and no struct: its code goes to the uint32_t that the caller lends as number.
  * That is no buffer but the call's answer: it is written always, with a refusal too, and never read. The pointer may
@@ -25,18 +25,19 @@
  * call at once if nothing that one of them writes is used by another.
  *
  * Time and stack. No call can be interrupted; the budget bounds a search, the referee takes small endings only, and a
- * lookup or an add goes through the used entries of its book one after the other. Where it was measured, each call used
- * less than 12 KiB of stack, some 2 KiB of which the dynamic linker took to look memset up at the first search; pool
- * and budget make no difference to that.
+ * lookup, an add or a publish goes through the used entries of its book one after the other. Where it was measured,
+ * each call used less than 12 KiB of stack, some 2 KiB of which the dynamic linker took to look memset up at the first
+ * search; pool and budget make no difference to that.
  *
  * Proofs. docs/PROMISES.md says what is proved of each call, for every record, move list, pool, book and setting. Of a
- * C caller the proofs assume that every pointer is valid for its length (number for one uint32_t) and aligned, and that
- * nothing that is written overlaps anything else of the call. What stands above about threads, time and stack was
- * measured or read off the archive, not proved.
+ * C caller the proofs assume that every pointer is valid for its length (number for one uint32_t) and aligned, that
+ * nothing that is written overlaps anything else of the call, and that a bool is false or true. What stands above about
+ * threads, time and stack was measured or read off the archive, not proved.
  */
 #ifndef ULTIMATTT_H
 #define ULTIMATTT_H
 
+#include <stdbool.h>
 #include <stddef.h>
 #include <stdint.h>
 
@@ -75,8 +76,23 @@ enum uttt_code {
     UTTT_NOT_EMPTY = 15,        /* a move on a cell that is taken */
     UTTT_TOO_MANY_EMPTY = 16,   /* referee: over nine empty cells in boards in play */
     UTTT_BOOK_SIZE = 17,        /* the book's length is no multiple of 22, or the count is above its entries */
-    UTTT_BOOK_FULL = 18         /* add: every entry of the book is used, and none holds the pair */
+    UTTT_BOOK_FULL = 18,        /* add: every entry of the book is used, and none holds the pair */
+    UTTT_TRAINER_WRITES = 19    /* add, publish: the caller is a trainer, who may only look up; ahead of all others */
 };
+
+/*
+ * The order in which each call checks. It is answered by the first check that refuses.
+ *
+ *   replay           1 to 6, 7, then 11 to 15 of each move in turn
+ *   legal moves      1 to 6, 7
+ *   referee          1 to 6, 10 (rule), 16
+ *   agreed opening   7
+ *   search           1 to 6, 8, 9, 10
+ *   full verdict     1 to 6, 8, 9, 10 (interval and budget)
+ *   lookup           1 to 6, 10 (rule), 17
+ *   add              19, 1 to 6, 8, 9, 10, 17, 18
+ *   publish          19, 1 to 6, 10 (rule), 17
+ */
 
 /*
  * Draw rules: what a drawn game counts as. True and False are for the side to move in the record. Under rule 1 True is
@@ -134,11 +150,23 @@ enum uttt_cause {
  * A book keeps verdicts. It is entries of 22 bytes and a count: so many of them, from the front on, are used. The
  * caller keeps the count. Entries past it are never read, so whatever the bytes are, with count 0 the book is empty. An
  * entry is a record's 21 bytes and one byte more, bits most significant first: two of rule, two of verdict (1 True, 2
- * False), four that are written as zeros and not looked at.
+ * False), three that are stored as zeros and not looked at, and the published mark, stored as 0 and set by a publish.
  *
- * A record and a rule are a pair. It is held if a used entry has both, and verdict 1 or 2; the first such entry counts.
- * In a book that was empty and that adds alone have written, a verdict is the position's value under the rule. Whether
- * one from elsewhere is true is not checked.
+ * A record and a rule are a pair. A used entry holds it if it has both, and verdict 1 or 2. In a book that was empty
+ * and that adds and publishes alone have written, a verdict is the position's value under the rule. Whether one from
+ * elsewhere is true is not checked.
+ *
+ * Who is calling. The calls of a book begin with trainer: false for an arbiter, true for a trainer. It is taken at its
+ * word; the library can't know it. An arbiter looks up, adds and publishes, and reads the first entry that holds the
+ * pair, published or not. A trainer may only look up, and reads the first that holds the pair and is published. In a
+ * book that was not begun empty these may be two entries, and may contradict each other.
+ *
+ * What a trainer learns. By calls, of published entries only: two books that pass check 17 and have the same published
+ * entries with verdict 1 or 2 (record, rule and verdict, in the same order) answer every lookup of a trainer alike, and
+ * add and publish tell a trainer nothing but 19. Two things are not promised. How long a trainer's lookup takes tells
+ * how many entries there are, unpublished ones too. And the promise is about calls, not about memory: whoever has the
+ * buffer can read the unpublished entries in it. So give trainers the calls, by a program that keeps buffer and count,
+ * and not the buffer.
  */
 #define UTTT_ENTRY_BYTES 22
 
@@ -201,6 +229,12 @@ struct uttt_add_answer {
     uint64_t count;   /* used entries after the call: the count that came in, or one more */
 };
 
+struct uttt_publish_answer {
+    uint32_t code;
+    uint64_t index;     /* 0 */
+    uint32_t published; /* 1; 0 if the pair is not held, and with a refusal */
+};
+
 /*
  * Plays the moves from the record, up to the first bad one, and writes the record afterwards to the first 21 bytes of
  * output; the others are left alone. No moves give the record itself.
@@ -248,23 +282,36 @@ struct uttt_full_answer uttt_full_verdict(const uint8_t *record, size_t record_l
                                           uint32_t *pool, size_t pool_words,
                                           uint64_t limit, uint64_t budget, uint64_t interval);
 
-/* Gives the verdict that the book holds for the record and the rule, 0 to 2. Nothing is searched, nothing written. */
-struct uttt_lookup_answer uttt_book_lookup(const uint8_t *book, size_t book_length, uint64_t count,
+/*
+ * Gives the verdict that the book holds for the record and the rule, 0 to 2; to a trainer, that of a published entry.
+ * Nothing is searched, nothing written.
+ */
+struct uttt_lookup_answer uttt_book_lookup(bool trainer, const uint8_t *book, size_t book_length, uint64_t count,
                                            const uint8_t *record, size_t record_length, uint64_t rule);
 
 /*
  * Answers a pair from the book or, if it is not held, by a search as uttt_search does it, and keeps what was found. The
  * pool and the settings are checked in either case. A held pair's verdict is given back without a search, and nothing
  * is written, not even in the pool. A True or False of a search is written to the book as the entry at the count, 22
- * bytes and no others, and count is then one more; Unknown is not kept. A full book that does not hold the pair is
- * refused before any search.
+ * bytes and no others, and count is then one more; trainers don't see it until it is published. Unknown is not kept. A
+ * full book that does not hold the pair is refused before any search. A trainer is refused with 19.
  *
  * Record, book and pool may not overlap: copy an entry's record out of the book before adding it under another rule.
  */
-struct uttt_add_answer uttt_book_add(uint8_t *book, size_t book_length, uint64_t count,
+struct uttt_add_answer uttt_book_add(bool trainer, uint8_t *book, size_t book_length, uint64_t count,
                                      const uint8_t *record, size_t record_length,
                                      uint32_t *pool, size_t pool_words,
                                      uint64_t rule, uint64_t limit, uint64_t budget, uint64_t interval);
+
+/*
+ * Sets the published mark of the first entry that holds the record and the rule, 0 to 2, and changes no other bit. If
+ * it is set already it stays so. A pair that is not held is no refusal: published is 0, and nothing is written. The
+ * count is the same afterwards. A trainer is refused with 19.
+ *
+ * Record and book may not overlap: copy an entry's record out of the book before publishing it.
+ */
+struct uttt_publish_answer uttt_book_publish(bool trainer, uint8_t *book, size_t book_length, uint64_t count,
+                                             const uint8_t *record, size_t record_length, uint64_t rule);
 
 #ifdef __cplusplus
 }

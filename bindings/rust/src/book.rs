@@ -2,20 +2,45 @@
 
 use crate::{answer, ffi, Pool, Refusal, Rule, Settings, Verdict, ENTRY_BYTES};
 
-/// Verdicts that are kept: entries of 22 bytes, of which the first ones are used, each with a record, a rule and True
-/// or False. The bytes are laid out as include/ultimattt.h says; with the count they can be stored and read back.
+/// Who calls a book. It is taken at its word.
+///
+/// By calls a trainer learns of published entries only: two books that pass check 17 and have the same published
+/// entries with a verdict, in the same order, answer every lookup of a trainer alike, and a trainer who adds or
+/// publishes is told [`Refusal::TrainerWrites`] and nothing more. That is about calls, not about memory: whoever has a
+/// [`Book`] can read all of its bytes. Nor is it about time: how long a lookup takes tells how many entries there are.
+#[derive(Clone, Copy, Debug, PartialEq, Eq, Hash)]
+pub enum Caller {
+    /// Looks up, adds and publishes; the first entry that holds a pair counts, published or not.
+    Arbiter,
+    /// Only looks up; the first entry that holds a pair and is published counts.
+    Trainer,
+}
+
+impl Caller {
+    fn is_trainer(self) -> bool {
+        self == Caller::Trainer
+    }
+}
+
+/// Verdicts that are kept: entries of 22 bytes, of which the first ones are used, each with a record, a rule, True or
+/// False, and a mark if it is published. The bytes are laid out as include/ultimattt.h says; with the count they can be
+/// stored and read back.
 ///
 /// ```
+/// use ultimattt::Caller::{Arbiter, Trainer};
 /// use ultimattt::{Book, Pool, Rule, Settings, Verdict};
 ///
 /// // X to move wins at once.
 /// let mut record = [0; 21];
 /// record[..11].copy_from_slice(&[0x12, 0xA0, 0x00, 0xA8, 0x00, 0x28, 0x05, 0x15, 0x00, 0x05, 0x40]);
 /// let mut book = Book::new(1_000);
-/// assert_eq!(book.lookup(&record, Rule::DrawFalse)?, None);
-/// let verdict = book.add(&record, &mut Pool::default(), Rule::DrawFalse, &Settings::default())?;
+/// assert_eq!(book.lookup(Arbiter, &record, Rule::DrawFalse)?, None);
+/// let verdict = book.add(Arbiter, &record, &mut Pool::default(), Rule::DrawFalse, &Settings::default())?;
 /// assert_eq!((verdict, book.count()), (Verdict::True, 1));
-/// assert_eq!(book.lookup(&record, Rule::DrawFalse)?, Some(true));
+/// assert_eq!(book.lookup(Arbiter, &record, Rule::DrawFalse)?, Some(true));
+/// assert_eq!(book.lookup(Trainer, &record, Rule::DrawFalse)?, None);
+/// assert!(book.publish(Arbiter, &record, Rule::DrawFalse)?);
+/// assert_eq!(book.lookup(Trainer, &record, Rule::DrawFalse)?, Some(true));
 /// # Ok::<(), ultimattt::Refusal>(())
 /// ```
 #[derive(Clone, Debug, Default)]
@@ -59,26 +84,48 @@ impl Book {
         self.bytes.resize(self.bytes.len() + entries * ENTRY_BYTES, 0);
     }
 
-    /// What the book holds for the record and the rule: True or False, for the side to move, or `None`.
-    pub fn lookup(&self, record: &[u8], rule: Rule) -> Result<Option<bool>, Refusal> {
-        lookup_in(&self.bytes, self.count, record, rule)
+    /// What the book holds for the record and the rule: True or False, for the side to move, or `None`. To a trainer,
+    /// what it holds in published entries.
+    pub fn lookup(&self, who: Caller, record: &[u8], rule: Rule) -> Result<Option<bool>, Refusal> {
+        lookup_in(who, &self.bytes, self.count, record, rule)
     }
 
     /// The verdict that the book holds for the record and the rule. If it holds none, the position is searched, and a
-    /// True or False is kept: it takes the next entry. Pool and settings are checked in either case.
+    /// True or False is kept: it takes the next entry, unpublished. Pool and settings are checked in either case.
     ///
     /// If the book is full and doesn't hold the pair, nothing is searched: [`Refusal::BookFull`]. The record can't be a
     /// part of the book, which is written: copy an entry's record out before adding it under another rule.
-    pub fn add(&mut self, record: &[u8], pool: &mut Pool, rule: Rule, s: &Settings) -> Result<Verdict, Refusal> {
-        add_to(&mut self.bytes, &mut self.count, record, pool, rule, s)
+    pub fn add(
+        &mut self,
+        who: Caller,
+        record: &[u8],
+        pool: &mut Pool,
+        rule: Rule,
+        s: &Settings,
+    ) -> Result<Verdict, Refusal> {
+        add_to(who, &mut self.bytes, &mut self.count, record, pool, rule, s)
+    }
+
+    /// Marks the first entry that holds the record and the rule as published; one that is published stays so. `false`
+    /// if there is none: then nothing is written. As with an add, the record can't be a part of the book.
+    pub fn publish(&mut self, who: Caller, record: &[u8], rule: Rule) -> Result<bool, Refusal> {
+        publish_in(who, &mut self.bytes, self.count, record, rule)
     }
 }
 
 /// [`Book::lookup`] in lent memory.
-pub fn lookup_in(book: &[u8], count: usize, record: &[u8], rule: Rule) -> Result<Option<bool>, Refusal> {
+pub fn lookup_in(who: Caller, book: &[u8], count: usize, record: &[u8], rule: Rule) -> Result<Option<bool>, Refusal> {
     // SAFETY: both slices are valid for their lengths, and nothing is written.
     let answer = unsafe {
-        ffi::uttt_book_lookup(book.as_ptr(), book.len(), count as u64, record.as_ptr(), record.len(), rule.number())
+        ffi::uttt_book_lookup(
+            who.is_trainer(),
+            book.as_ptr(),
+            book.len(),
+            count as u64,
+            record.as_ptr(),
+            record.len(),
+            rule.number(),
+        )
     };
     Refusal::check(answer.code, answer.index)?;
     match answer.verdict {
@@ -91,6 +138,7 @@ pub fn lookup_in(book: &[u8], count: usize, record: &[u8], rule: Rule) -> Result
 
 /// [`Book::add`] in lent memory. The count is one more if an entry was written; of the book, that entry alone is.
 pub fn add_to(
+    who: Caller,
     book: &mut [u8],
     count: &mut usize,
     record: &[u8],
@@ -102,6 +150,7 @@ pub fn add_to(
     // SAFETY: the three slices are valid for their lengths, and a &mut overlaps nothing.
     let answer = unsafe {
         ffi::uttt_book_add(
+            who.is_trainer(),
             book.as_mut_ptr(),
             book.len(),
             *count as u64,
@@ -119,4 +168,26 @@ pub fn add_to(
     *count = answer.count as usize;
     Refusal::check(answer.code, answer.index)?;
     Ok(Verdict::named(answer.verdict))
+}
+
+/// [`Book::publish`] in lent memory. Of the book, one bit is changed or none.
+pub fn publish_in(who: Caller, book: &mut [u8], count: usize, record: &[u8], rule: Rule) -> Result<bool, Refusal> {
+    // SAFETY: both slices are valid for their lengths, and a &mut overlaps nothing.
+    let answer = unsafe {
+        ffi::uttt_book_publish(
+            who.is_trainer(),
+            book.as_mut_ptr(),
+            book.len(),
+            count as u64,
+            record.as_ptr(),
+            record.len(),
+            rule.number(),
+        )
+    };
+    Refusal::check(answer.code, answer.index)?;
+    match answer.published {
+        0 => Ok(false),
+        1 => Ok(true),
+        number => answer::unnamed("published", number),
+    }
 }

@@ -67,10 +67,18 @@ pub struct AddAnswer {
     pub count: u64,
 }
 
+#[repr(C)]
+pub struct PublishAnswer {
+    pub code: u32,
+    pub index: u64,
+    pub published: u32,
+}
+
 const _: () = assert!(size_of::<ReplayAnswer>() == 16 && size_of::<MovesAnswer>() == 24);
 const _: () = assert!(size_of::<RefereeAnswer>() == 24 && size_of::<ResultFields>() == 64);
 const _: () = assert!(size_of::<SearchAnswer>() == 80 && size_of::<FullAnswer>() == 152);
 const _: () = assert!(size_of::<LookupAnswer>() == 24 && size_of::<AddAnswer>() == 32);
+const _: () = assert!(size_of::<PublishAnswer>() == 24);
 
 extern "C" {
     pub fn uttt_replay(
@@ -123,6 +131,7 @@ extern "C" {
     ) -> FullAnswer;
 
     pub fn uttt_book_lookup(
+        trainer: bool,
         book: *const u8,
         book_length: usize,
         count: u64,
@@ -132,6 +141,7 @@ extern "C" {
     ) -> LookupAnswer;
 
     pub fn uttt_book_add(
+        trainer: bool,
         book: *mut u8,
         book_length: usize,
         count: u64,
@@ -144,4 +154,14 @@ extern "C" {
         budget: u64,
         interval: u64,
     ) -> AddAnswer;
+
+    pub fn uttt_book_publish(
+        trainer: bool,
+        book: *mut u8,
+        book_length: usize,
+        count: u64,
+        record: *const u8,
+        record_length: usize,
+        rule: u64,
+    ) -> PublishAnswer;
 }

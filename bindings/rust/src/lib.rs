@@ -21,7 +21,7 @@ mod pool;
 mod refusal;
 
 pub use answer::{Cause, FullResult, FullVerdict, SearchResult, Verdict};
-pub use book::{add_to, lookup_in, Book};
+pub use book::{add_to, lookup_in, publish_in, Book, Caller};
 pub use pool::Pool;
 pub use refusal::Refusal;
 

@@ -3,7 +3,7 @@
 use std::error::Error;
 use std::fmt;
 
-/// The first check that a call failed, the lowest of those that it fails. Nothing was written.
+/// The first check that a call failed, in the order in which it checks (include/ultimattt.h). Nothing was written.
 ///
 /// Where a move is to blame, its index in the list of moves, from 0, stands with it.
 #[derive(Clone, Copy, Debug, PartialEq, Eq, Hash)]
@@ -44,6 +44,8 @@ pub enum Refusal {
     BookSize,
     /// 18: every entry of the book is used, and none holds the pair that is to be added.
     BookFull,
+    /// 19: a trainer adds or publishes. It comes ahead of all others.
+    TrainerWrites,
 }
 
 impl Refusal {
@@ -70,11 +72,12 @@ impl Refusal {
             16 => Refusal::TooManyEmpty,
             17 => Refusal::BookSize,
             18 => Refusal::BookFull,
+            19 => Refusal::TrainerWrites,
             _ => crate::answer::unnamed("code", code),
         })
     }
 
-    /// The number in the table of refusals, 1 to 18.
+    /// The number in the table of refusals, 1 to 19.
     pub fn number(self) -> u32 {
         match self {
             Refusal::RecordLength => 1,
@@ -95,6 +98,7 @@ impl Refusal {
             Refusal::TooManyEmpty => 16,
             Refusal::BookSize => 17,
             Refusal::BookFull => 18,
+            Refusal::TrainerWrites => 19,
         }
     }
 
@@ -133,6 +137,7 @@ impl Refusal {
             Refusal::TooManyEmpty => "boards in play have over nine empty cells, too many for the referee",
             Refusal::BookSize => "the book's length is not a multiple of 22 bytes, or its count is above its entries",
             Refusal::BookFull => "the book is full and does not hold the pair",
+            Refusal::TrainerWrites => "trainers may look up, but not add or publish",
         }
     }
 }

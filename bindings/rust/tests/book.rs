@@ -3,35 +3,10 @@
 
 mod common;
 
-use common::{budget, d, pool, w, x_to_move, E, FREE_CHOICE, O, X};
-use ultimattt::{add_to, lookup_in, search, Book, Pool, Record, Refusal, Rule, Settings, Verdict, ENTRY_BYTES};
-
-const RULES: [Rule; 3] = [Rule::DrawLostByMover, Rule::DrawFalse, Rule::DrawTrue];
-const TRUE: u8 = 1;
-const FALSE: u8 = 2;
-const MARK: u8 = 0xEE;
-/// More expansions than W and D take.
-const ENOUGH: u64 = 10;
-
-/// An entry with these two bits of verdict.
-fn entry(record: &Record, rule: Rule, verdict: u8) -> Vec<u8> {
-    let last = (rule.number() as u8) << 6 | verdict << 4;
-    [&record[..], &[last]].concat()
-}
-
-/// A book of these entries, all of them used.
-fn used(entries: &[Vec<u8>]) -> Book {
-    Book::from_bytes(entries.concat(), entries.len())
-}
-
-fn found(book: &Book, record: &Record, rule: Rule) -> Option<bool> {
-    book.lookup(record, rule).expect("an accepted lookup")
-}
-
-/// An add with a new pool.
-fn add(book: &mut Book, record: &Record, rule: Rule) -> Result<Verdict, Refusal> {
-    book.add(record, &mut pool(50), rule, &budget(ENOUGH))
-}
+use common::book::{add, entry, found, publish, published, seen, used, with_low, ENOUGH, FALSE, FILL, MARK, TRUE};
+use common::{budget, d, pool, refused_records, w, E, FREE_CHOICE, RULES};
+use ultimattt::Caller::{Arbiter, Trainer};
+use ultimattt::{add_to, lookup_in, search, Book, Pool, Refusal, Rule, Settings, Verdict, ENTRY_BYTES};
 
 /// D is drawn: False under rules 0 and 1, True under rule 2. Each pair has its own entry.
 #[test]
@@ -57,16 +32,16 @@ fn added_twice() {
     let before = book.bytes().to_vec();
     let mut pool = Pool::from_words(vec![0xA5A5_A5A5; 34]);
     assert_eq!(search(&w(), &mut pool.clone(), Rule::DrawFalse, &budget(0)).unwrap().verdict, Verdict::Unknown);
-    assert_eq!(book.add(&w(), &mut pool, Rule::DrawFalse, &budget(0)), Ok(Verdict::True));
+    assert_eq!(book.add(Arbiter, &w(), &mut pool, Rule::DrawFalse, &budget(0)), Ok(Verdict::True));
     assert_eq!(pool.words(), [0xA5A5_A5A5; 34]);
     assert_eq!((book.count(), book.bytes()), (1, &before[..]));
 }
 
 #[test]
 fn unknown_is_not_kept() {
-    let mut book = Book::from_bytes(vec![MARK; 2 * ENTRY_BYTES], 0);
-    assert_eq!(book.add(&w(), &mut pool(50), Rule::DrawFalse, &budget(0)), Ok(Verdict::Unknown));
-    assert_eq!((book.count(), book.bytes()), (0, &[MARK; 44][..]));
+    let mut book = Book::from_bytes(vec![FILL; 2 * ENTRY_BYTES], 0);
+    assert_eq!(book.add(Arbiter, &w(), &mut pool(50), Rule::DrawFalse, &budget(0)), Ok(Verdict::Unknown));
+    assert_eq!((book.count(), book.bytes()), (0, &[FILL; 44][..]));
     assert_eq!(found(&book, &w(), Rule::DrawFalse), None);
     assert_eq!(add(&mut book, &w(), Rule::DrawFalse), Ok(Verdict::True));
 }
@@ -75,11 +50,11 @@ fn unknown_is_not_kept() {
 #[test]
 fn what_an_add_writes() {
     for count in 0..3 {
-        let mut memory = [MARK; 4 * ENTRY_BYTES];
+        let mut memory = [FILL; 4 * ENTRY_BYTES];
         let (mut after, mut pool) = (count, Pool::from_words(vec![7; 34]));
-        let answer = add_to(&mut memory[..66], &mut after, &w(), &mut pool, Rule::DrawTrue, &budget(ENOUGH));
+        let answer = add_to(Arbiter, &mut memory[..66], &mut after, &w(), &mut pool, Rule::DrawTrue, &budget(ENOUGH));
         assert_eq!((answer, after), (Ok(Verdict::True), count + 1));
-        let mut due = [MARK; 4 * ENTRY_BYTES];
+        let mut due = [FILL; 4 * ENTRY_BYTES];
         due[count * ENTRY_BYTES..][..ENTRY_BYTES].copy_from_slice(&entry(&w(), Rule::DrawTrue, TRUE));
         assert_eq!(memory, due);
         assert_eq!(pool.words()[30..], [7; 4]);
@@ -123,26 +98,30 @@ fn verdict_bits_of_no_verdict() {
     }
 }
 
-/// The four low bits of an entry's last byte make no difference.
+/// To arbiters the four low bits of an entry's last byte make no difference, to trainers the mark alone does.
 #[test]
 fn low_bits() {
     for low in 0..16 {
-        let mut bytes = entry(&w(), Rule::DrawFalse, FALSE);
-        bytes[21] |= low;
-        assert_eq!(found(&Book::from_bytes(bytes, 1), &w(), Rule::DrawFalse), Some(false));
+        let book = used(&[with_low(entry(&w(), Rule::DrawFalse, FALSE), low)]);
+        assert_eq!(found(&book, &w(), Rule::DrawFalse), Some(false));
+        assert_eq!(seen(&book, &w(), Rule::DrawFalse), (low & MARK == MARK).then_some(false));
     }
 }
 
-/// Every bit of the record and of the rule is compared.
+/// Every bit of the record and of the rule is compared, whoever calls and whatever the call.
 #[test]
 fn one_bit_apart() {
-    let alike = entry(&w(), Rule::DrawFalse, TRUE);
+    let alike = published(&w(), Rule::DrawFalse, TRUE);
     for bit in 0..170 {
         let mut bytes = alike.clone();
         bytes[bit / 8] ^= 0x80 >> (bit % 8);
-        assert_eq!(found(&Book::from_bytes(bytes, 1), &w(), Rule::DrawFalse), None, "bit {bit}");
+        let mut book = Book::from_bytes(bytes, 1);
+        assert_eq!(found(&book, &w(), Rule::DrawFalse), None, "bit {bit}");
+        assert_eq!(seen(&book, &w(), Rule::DrawFalse), None, "bit {bit}");
+        assert!(!publish(&mut book, &w(), Rule::DrawFalse), "bit {bit}");
     }
-    assert_eq!(found(&used(&[alike]), &w(), Rule::DrawFalse), Some(true));
+    let book = used(&[alike]);
+    assert_eq!((found(&book, &w(), Rule::DrawFalse), seen(&book, &w(), Rule::DrawFalse)), (Some(true), Some(true)));
 }
 
 /// Books of zeros, which hold nothing, of every small length and with counts in and out of their range.
@@ -157,7 +136,11 @@ fn sizes_of_a_book() {
             Some(most) if count == most => (Ok(None), Err(Refusal::BookFull)),
             _ => (Err(Refusal::BookSize), Err(Refusal::BookSize)),
         };
-        assert_eq!(book.lookup(&w(), Rule::DrawFalse), looked_up, "{length} bytes, count {count}");
+        for who in [Arbiter, Trainer] {
+            assert_eq!(book.lookup(who, &w(), Rule::DrawFalse), looked_up, "{length} bytes, count {count}");
+        }
+        let marked = looked_up.map(|_| false);
+        assert_eq!(book.publish(Arbiter, &w(), Rule::DrawFalse), marked, "{length} bytes, count {count}");
         assert_eq!(add(&mut book, &w(), Rule::DrawFalse), added, "{length} bytes, count {count}");
         assert_eq!(book.count(), if added.is_ok() { count + 1 } else { count });
     }
@@ -172,37 +155,26 @@ fn a_full_book() {
     let mut pool = Pool::from_words(vec![0xA5A5_A5A5; 34]);
     for (record, rule, expansions) in [(w(), Rule::DrawTrue, ENOUGH), (w(), Rule::DrawTrue, 0), (E, Rule::DrawFalse, 0)]
     {
-        assert_eq!(book.add(&record, &mut pool, rule, &budget(expansions)), Err(Refusal::BookFull));
+        assert_eq!(book.add(Arbiter, &record, &mut pool, rule, &budget(expansions)), Err(Refusal::BookFull));
     }
     assert_eq!(pool.words(), [0xA5A5_A5A5; 34]);
     assert_eq!((book.count(), book.bytes()), (1, &before[..]));
     assert_eq!((book.entries(), Book::new(0).entries()), (1, 0));
 }
 
-/// Records that checks 1 to 6 refuse, in their order.
-fn refused_records() -> [Vec<u8>; 6] {
-    let of_both: (&[usize], &[usize], u8) = (&[0], &[3, 4, 5], O);
-    let won: (&[usize], &[usize], u8) = (&[0, 1, 2], &[0, 1, 2], X);
-    [
-        vec![],
-        x_to_move(9, &[]).to_vec(),
-        x_to_move(FREE_CHOICE, &[(&[0], &[0], X)]).to_vec(),
-        x_to_move(FREE_CHOICE, &[(&[0], &[0, 1, 2], X), of_both]).to_vec(),
-        x_to_move(FREE_CHOICE, &[won, (&[3, 4, 5], &[0, 1, 3], O)]).to_vec(),
-        d(0).to_vec(),
-    ]
-}
-
-/// A refused record comes ahead of all else that is wrong.
+/// A refused record comes ahead of all else that is wrong, but for a trainer who writes.
 #[test]
 fn refused_records_in_a_broken_book() {
-    let mut book = Book::from_bytes(vec![MARK; 23], 7);
+    let mut book = Book::from_bytes(vec![FILL; 23], 7);
     let (mut none, late) = (Pool::from_words(vec![]), Settings { interval: 0, ..budget(1) });
     for (record, number) in refused_records().iter().zip(1..) {
-        assert_eq!(book.lookup(record, Rule::DrawFalse).unwrap_err().number(), number);
-        assert_eq!(book.add(record, &mut none, Rule::DrawFalse, &late).unwrap_err().number(), number);
+        for who in [Arbiter, Trainer] {
+            assert_eq!(book.lookup(who, record, Rule::DrawFalse).unwrap_err().number(), number);
+        }
+        assert_eq!(book.add(Arbiter, record, &mut none, Rule::DrawFalse, &late).unwrap_err().number(), number);
+        assert_eq!(book.publish(Arbiter, record, Rule::DrawFalse).unwrap_err().number(), number);
     }
-    assert_eq!((book.count(), book.bytes()), (7, &[MARK; 23][..]));
+    assert_eq!((book.count(), book.bytes()), (7, &[FILL; 23][..]));
 }
 
 /// Pool and settings come ahead of the book; a refused add gives its count back and writes nothing.
@@ -211,11 +183,11 @@ fn order_of_the_checks() {
     let late = Settings { interval: 0, ..budget(1) };
     let (mut none, mut small) = (Pool::from_words(vec![]), pool(2));
     for length in [21, 22, 23] {
-        let mut book = Book::from_bytes(vec![MARK; length], 7);
-        assert_eq!(book.add(&w(), &mut none, Rule::DrawFalse, &late), Err(Refusal::PoolEmpty));
-        assert_eq!(book.add(&w(), &mut small, Rule::DrawFalse, &late), Err(Refusal::SettingRange));
-        assert_eq!(book.add(&w(), &mut small, Rule::DrawFalse, &budget(1)), Err(Refusal::BookSize));
-        assert_eq!((book.count(), book.into_bytes()), (7, vec![MARK; length]));
+        let mut book = Book::from_bytes(vec![FILL; length], 7);
+        assert_eq!(book.add(Arbiter, &w(), &mut none, Rule::DrawFalse, &late), Err(Refusal::PoolEmpty));
+        assert_eq!(book.add(Arbiter, &w(), &mut small, Rule::DrawFalse, &late), Err(Refusal::SettingRange));
+        assert_eq!(book.add(Arbiter, &w(), &mut small, Rule::DrawFalse, &budget(1)), Err(Refusal::BookSize));
+        assert_eq!((book.count(), book.into_bytes()), (7, vec![FILL; length]));
     }
 }
 
@@ -223,22 +195,24 @@ fn order_of_the_checks() {
 #[test]
 fn checks_of_a_held_pair() {
     let mut book = used(&[entry(&w(), Rule::DrawFalse, TRUE)]);
-    let late = Settings { interval: 0, ..budget(1) };
-    assert_eq!(book.add(&w(), &mut Pool::from_words(vec![0; 4]), Rule::DrawFalse, &late), Err(Refusal::PoolEmpty));
-    assert_eq!(book.add(&w(), &mut pool(1), Rule::DrawFalse, &late), Err(Refusal::SettingRange));
-    assert_eq!(book.add(&w(), &mut pool(1), Rule::DrawFalse, &budget(0)), Ok(Verdict::True));
+    let (mut short, late) = (Pool::from_words(vec![0; 4]), Settings { interval: 0, ..budget(1) });
+    assert_eq!(book.add(Arbiter, &w(), &mut short, Rule::DrawFalse, &late), Err(Refusal::PoolEmpty));
+    assert_eq!(book.add(Arbiter, &w(), &mut pool(1), Rule::DrawFalse, &late), Err(Refusal::SettingRange));
+    assert_eq!(book.add(Arbiter, &w(), &mut pool(1), Rule::DrawFalse, &budget(0)), Ok(Verdict::True));
 }
 
 /// A lookup writes nothing, so its record may be an entry's, where it stands.
 #[test]
 fn looked_up_with_the_record_of_an_entry() {
-    let book = used(&[entry(&w(), Rule::DrawFalse, TRUE), entry(&d(FREE_CHOICE), Rule::DrawTrue, FALSE)]);
+    let book = used(&[entry(&w(), Rule::DrawFalse, TRUE), published(&d(FREE_CHOICE), Rule::DrawTrue, FALSE)]);
     let bytes = book.bytes();
-    assert_eq!(lookup_in(bytes, 2, &bytes[22..43], Rule::DrawTrue), Ok(Some(false)));
-    assert_eq!(lookup_in(bytes, 2, &bytes[22..44], Rule::DrawTrue), Err(Refusal::RecordLength));
+    for who in [Arbiter, Trainer] {
+        assert_eq!(lookup_in(who, bytes, 2, &bytes[22..43], Rule::DrawTrue), Ok(Some(false)));
+        assert_eq!(lookup_in(who, bytes, 2, &bytes[22..44], Rule::DrawTrue), Err(Refusal::RecordLength));
+    }
 }
 
-/// What was stored is found again in a copy that was read back.
+/// What was stored and published is found again in a copy that was read back.
 #[test]
 fn stored_and_read_back() {
     let mut book = Book::new(4);
@@ -246,7 +220,10 @@ fn stored_and_read_back() {
     let pairs = || records.iter().flat_map(|record| RULES[1..].iter().map(move |rule| (record, *rule)));
     let verdicts: Vec<Verdict> = pairs().map(|(record, rule)| add(&mut book, record, rule).unwrap()).collect();
     assert_eq!(verdicts, [Verdict::True, Verdict::True, Verdict::False, Verdict::True]);
+    assert!(publish(&mut book, &d(FREE_CHOICE), Rule::DrawFalse));
     let copy = Book::from_bytes(book.bytes().to_vec(), book.count());
     let found: Vec<Option<bool>> = pairs().map(|(record, rule)| found(&copy, record, rule)).collect();
     assert_eq!(found, [Some(true), Some(true), Some(false), Some(true)]);
+    let seen: Vec<Option<bool>> = pairs().map(|(record, rule)| seen(&copy, record, rule)).collect();
+    assert_eq!(seen, [None, None, Some(false), None]);
 }

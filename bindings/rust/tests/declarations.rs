@@ -13,7 +13,7 @@ const WRAPPER: &str = include_str!("../src/ffi.rs");
 const HEADER: &str = include_str!("../../../include/ultimattt.h");
 
 /// Types of C as the wrapper writes them; what holds another comes first.
-const TYPES: [(&str, &str); 14] = [
+const TYPES: [(&str, &str); 15] = [
     ("struct uttt_replay_answer", "ReplayAnswer"),
     ("struct uttt_moves_answer", "MovesAnswer"),
     ("struct uttt_referee_answer", "RefereeAnswer"),
@@ -21,6 +21,7 @@ const TYPES: [(&str, &str); 14] = [
     ("struct uttt_full_answer", "FullAnswer"),
     ("struct uttt_lookup_answer", "LookupAnswer"),
     ("struct uttt_add_answer", "AddAnswer"),
+    ("struct uttt_publish_answer", "PublishAnswer"),
     ("struct uttt_result", "ResultFields"),
     ("const uint8_t *", "*const u8 "),
     ("uint8_t *", "*mut u8 "),
@@ -85,6 +86,7 @@ fn c_structs(text: &str) -> Declared {
         "FullAnswer",
         "LookupAnswer",
         "AddAnswer",
+        "PublishAnswer",
     ];
     let fields = |name: &str| {
         let (_, after) = text.split_once(&format!("\n{name} {{")).expect("the header has each struct");
@@ -132,7 +134,7 @@ fn c_functions(text: &str) -> Declared {
 #[test]
 fn structs() {
     let library = rust_structs(LIBRARY);
-    assert_eq!(library.len(), 8);
+    assert_eq!(library.len(), 9);
     assert_eq!(rust_structs(WRAPPER), library);
     assert_eq!(c_structs(&header()), library);
 }
@@ -140,7 +142,7 @@ fn structs() {
 #[test]
 fn functions() {
     let library = rust_functions(LIBRARY, "pub extern \"C\" fn ");
-    assert_eq!(library.len(), 8);
+    assert_eq!(library.len(), 9);
     assert_eq!(rust_functions(WRAPPER, "pub fn "), library);
     assert_eq!(c_functions(&header()), library);
 }
@@ -175,6 +177,7 @@ fn refusals() {
         ("TOO_MANY_EMPTY", Refusal::TooManyEmpty),
         ("BOOK_SIZE", Refusal::BookSize),
         ("BOOK_FULL", Refusal::BookFull),
+        ("TRAINER_WRITES", Refusal::TrainerWrites),
     ];
     for (name, refusal) in named {
         assert_eq!(number(name), u64::from(refusal.number()), "{name}");

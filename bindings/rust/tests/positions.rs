@@ -2,11 +2,9 @@
 
 mod common;
 
-use common::{budget, bytes, d, pool, record, w, E, FREE_CHOICE, G};
+use common::{budget, bytes, d, pool, record, w, E, FREE_CHOICE, G, RULES};
 use ultimattt::{agreed_opening, full_verdict, legal_moves, referee, replay, search};
 use ultimattt::{Cause, FullVerdict, Pool, Refusal, Rule, Settings, Verdict};
-
-const RULES: [Rule; 3] = [Rule::DrawLostByMover, Rule::DrawFalse, Rule::DrawTrue];
 
 /// A search's result, as the program judge prints it.
 fn line(record: &[u8], nodes: usize, expansions: u64, rule: Rule) -> String {

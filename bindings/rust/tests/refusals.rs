@@ -3,6 +3,7 @@
 mod common;
 
 use common::{d, pool, w, x_to_move, E, FREE_CHOICE, O, X};
+use ultimattt::Caller::{Arbiter, Trainer};
 use ultimattt::{agreed_opening_into, full_verdict, legal_moves_into, referee, replay, replay_into, search};
 use ultimattt::{Book, Pool, Refusal, Rule, Settings, BUDGET_MOST, INTERVAL_MOST, NODE_WORDS, POOL_MOST};
 
@@ -99,27 +100,46 @@ fn endings() {
 #[test]
 fn books() {
     let words = "the book's length is not a multiple of 22 bytes, or its count is above its entries";
-    refused(Book::from_bytes(vec![0; 23], 0).lookup(&E, Rule::DrawFalse), Refusal::BookSize, 17, words);
-    refused(Book::from_bytes(vec![0; 22], 2).lookup(&E, Rule::DrawFalse), Refusal::BookSize, 17, words);
     let (usual, mut any) = (Settings::default(), pool(1));
-    refused(Book::from_bytes(vec![], 1).add(&E, &mut any, Rule::DrawFalse, &usual), Refusal::BookSize, 17, words);
+    for (length, count) in [(23, 0), (22, 2), (0, 1)] {
+        let mut book = Book::from_bytes(vec![0; length], count);
+        refused(book.lookup(Arbiter, &E, Rule::DrawFalse), Refusal::BookSize, 17, words);
+        refused(book.lookup(Trainer, &E, Rule::DrawFalse), Refusal::BookSize, 17, words);
+        refused(book.add(Arbiter, &E, &mut any, Rule::DrawFalse, &usual), Refusal::BookSize, 17, words);
+        refused(book.publish(Arbiter, &E, Rule::DrawFalse), Refusal::BookSize, 17, words);
+    }
     let full = "the book is full and does not hold the pair";
-    refused(Book::new(0).add(&E, &mut any, Rule::DrawFalse, &usual), Refusal::BookFull, 18, full);
+    refused(Book::new(0).add(Arbiter, &E, &mut any, Rule::DrawFalse, &usual), Refusal::BookFull, 18, full);
+}
+
+#[test]
+fn trainers() {
+    let words = "trainers may look up, but not add or publish";
+    let (mut book, usual) = (Book::new(1), Settings::default());
+    refused(book.add(Trainer, &w(), &mut pool(50), Rule::DrawFalse, &usual), Refusal::TrainerWrites, 19, words);
+    refused(book.publish(Trainer, &w(), Rule::DrawFalse), Refusal::TrainerWrites, 19, words);
+    assert_eq!(book.lookup(Trainer, &w(), Rule::DrawFalse), Ok(None));
 }
 
 #[test]
 fn index_with_moves_alone() {
     assert_eq!(Refusal::NotEmpty(7).index(), Some(7));
     assert_eq!(Refusal::TooManyEmpty.index(), None);
+    assert_eq!(Refusal::TrainerWrites.index(), None);
 }
 
-/// The lowest number comes first, whatever else is wrong.
+/// The first check in the call's order is the answer, whatever else is wrong: the lowest number, but 19 ahead of all.
 #[test]
-fn lowest_first() {
+fn first_in_order() {
     let bad = Settings { interval: 0, ..Settings::default() };
     let mut none = Pool::from_words(vec![]);
     assert_eq!(search(&[], &mut none, Rule::DrawTrue, &bad), Err(Refusal::RecordLength));
     assert_eq!(search(&E, &mut none, Rule::DrawTrue, &bad), Err(Refusal::PoolEmpty));
     assert_eq!(replay_into(&E, &[0x09], &mut []), Err(Refusal::OutputShort));
     assert_eq!(agreed_opening_into(&[0x09], &[0x09], &mut []), Err(Refusal::OutputShort));
+    let mut broken = Book::from_bytes(vec![0; 23], 7);
+    assert_eq!(broken.add(Trainer, &[], &mut none, Rule::DrawTrue, &bad), Err(Refusal::TrainerWrites));
+    assert_eq!(broken.add(Arbiter, &[], &mut none, Rule::DrawTrue, &bad), Err(Refusal::RecordLength));
+    assert_eq!(broken.publish(Trainer, &[], Rule::DrawTrue), Err(Refusal::TrainerWrites));
+    assert_eq!(broken.publish(Arbiter, &[], Rule::DrawTrue), Err(Refusal::RecordLength));
 }

@@ -11,6 +11,7 @@ use Rattle.plain.specs.Cases.{E, W, D, starred}
 use Rattle.searches.specs.Searches.{Limits, searchRefusal}
 use Rattle.searches.specs.StepThree.{pool, judging}
 use Rattle.entries.specs.Entries.{holdsRule, holdsPair, find}
+use Rattle.entries.specs.declared.Caller.the-variants.{Arbiter}
 use Rattle.book.specs.Book.{Book, bookOf, BookOutcome, refused, unsearched, searching, lookupRefusal, lookupCall, addRefusal, addCall}
 use Rattle.book.specs.Lists.{Lookup, Add, afterCalls}
 use Rattle.book.specs.Changes.{add-by-search}
@@ -24,10 +25,10 @@ entry bytes last = bytes ++ (last ∷ [])
 
 -- What a lookup of D under rule 1 finds in a buffer with a count.
 abbrev pub Finds : (buffer : List ℕ) (count verdict : ℕ) → Type 0
-Finds buffer count v = lookupCall D 1 (bookOf buffer count) ≡ unsearched (bookOf buffer count) v
+Finds buffer count v = lookupCall Arbiter D 1 (bookOf buffer count) ≡ unsearched (bookOf buffer count) v
 
 abbrev pub Turns : (buffer : List ℕ) (count number : ℕ) → Type 0
-Turns buffer count n = lookupCall D 1 (bookOf buffer count) ≡ refused (bookOf buffer count) n
+Turns buffer count n = lookupCall Arbiter D 1 (bookOf buffer count) ≡ refused (bookOf buffer count) n
 
 -- The program judge's settings.
 abbrev pub judge : Limits
@@ -46,22 +47,22 @@ both = bookOf (entry D 0x60 ++ entry D 0x90) 2
 -- Each field is a case. D is drawn.
 pub record BookCases : Type 0 where
   -- D is added under rule 1 and under rule 2: the same record under two rules
-  pub D-1 : addCall D (pool 3276) 1 judge none ≡ searching one 2
-  pub D-2 : addCall D (pool 3276) 2 judge one ≡ searching both 1
-  pub D-found-1 : lookupCall D 1 both ≡ unsearched both 2
-  pub D-found-2 : lookupCall D 2 both ≡ unsearched both 1
-  pub D-not-held : lookupCall D 0 both ≡ unsearched both 0
+  pub D-1 : addCall Arbiter D (pool 3276) 1 judge none ≡ searching one 2
+  pub D-2 : addCall Arbiter D (pool 3276) 2 judge one ≡ searching both 1
+  pub D-found-1 : lookupCall Arbiter D 1 both ≡ unsearched both 2
+  pub D-found-2 : lookupCall Arbiter D 2 both ≡ unsearched both 1
+  pub D-not-held : lookupCall Arbiter D 0 both ≡ unsearched both 0
   -- added again: answered without a search, with another pool and no budget too, and in a full book
-  pub D-again : addCall D (pool 3276) 1 judge one ≡ unsearched one 2
-  pub D-again-full : addCall D (pool 1) 2 (judging 0) both ≡ unsearched both 1
+  pub D-again : addCall Arbiter D (pool 3276) 1 judge one ≡ unsearched one 2
+  pub D-again-full : addCall Arbiter D (pool 1) 2 (judging 0) both ≡ unsearched both 1
   -- W, won with one move, and E, which is Unknown with no budget: nothing is stored
-  pub W-1 : addCall W (pool 2) 1 (judging 1) (bookOf (blank 22) 0) ≡ searching (bookOf (entry W 0x50) 1) 1
-  pub W-short : addCall W (pool 1) 1 (judging 1) none ≡ searching none 0
-  pub E-spent : addCall E (pool 3276) 2 (judging 0) one ≡ searching one 0
+  pub W-1 : addCall Arbiter W (pool 2) 1 (judging 1) (bookOf (blank 22) 0) ≡ searching (bookOf (entry W 0x50) 1) 1
+  pub W-short : addCall Arbiter W (pool 1) 1 (judging 1) none ≡ searching none 0
+  pub E-spent : addCall Arbiter E (pool 3276) 2 (judging 0) one ≡ searching one 0
   -- a full book without the pair is refused by 18, also where the search would be Unknown
-  pub W-full : addCall W (pool 2) 1 (judging 1) both ≡ refused both 18
-  pub E-full : addCall E (pool 3276) 2 (judging 0) both ≡ refused both 18
-  pub no-entries : addCall D (pool 3276) 1 judge (bookOf [] 0) ≡ refused (bookOf [] 0) 18
+  pub W-full : addCall Arbiter W (pool 2) 1 (judging 1) both ≡ refused both 18
+  pub E-full : addCall Arbiter E (pool 3276) 2 (judging 0) both ≡ refused both 18
+  pub no-entries : addCall Arbiter D (pool 3276) 1 judge (bookOf [] 0) ≡ refused (bookOf [] 0) 18
   -- an entry past the count is not looked at
   pub past-the-count : Finds (entry D 0x60 ++ blank 22) 0 0
   pub past-the-first : Finds (blank 22 ++ entry D 0x60) 1 0
@@ -85,12 +86,12 @@ pub record BookCases : Type 0 where
   pub count-of-none : Turns [] 1 17
   pub largest-count : Turns (blank 44) 18446744073709551615 17
   -- the record, the pool and the rule are checked before the book
-  pub record-first : lookupCall [] 3 (bookOf (blank 23) 5) ≡ refused (bookOf (blank 23) 5) 1
-  pub rule-first : lookupCall D 3 (bookOf (blank 23) 5) ≡ refused (bookOf (blank 23) 5) 10
-  pub pool-first : addCall D 4 1 judge (bookOf (blank 23) 5) ≡ refused (bookOf (blank 23) 5) 8
-  pub book-then : addCall D (pool 1) 1 judge (bookOf (blank 23) 0) ≡ refused (bookOf (blank 23) 0) 17
+  pub record-first : lookupCall Arbiter [] 3 (bookOf (blank 23) 5) ≡ refused (bookOf (blank 23) 5) 1
+  pub rule-first : lookupCall Arbiter D 3 (bookOf (blank 23) 5) ≡ refused (bookOf (blank 23) 5) 10
+  pub pool-first : addCall Arbiter D 4 1 judge (bookOf (blank 23) 5) ≡ refused (bookOf (blank 23) 5) 8
+  pub book-then : addCall Arbiter D (pool 1) 1 judge (bookOf (blank 23) 0) ≡ refused (bookOf (blank 23) 0) 17
   -- a list of calls, one of them refused
-  pub list : afterCalls (Add D (pool 3276) 1 judge ∷ Lookup D 1 ∷ Add D 4 2 judge ∷ Add D (pool 3276) 2 judge ∷ []) none ≡ both
+  pub list : afterCalls (Add Arbiter D (pool 3276) 1 judge ∷ Lookup Arbiter D 1 ∷ Add Arbiter D 4 2 judge ∷ Add Arbiter D (pool 3276) 2 judge ∷ []) none ≡ both
 
 pub book-cases : BookCases
 unfolding hasLine state board boardStates gameState bitAt positionOf positionRefusal refusal firstRefusal searchRefusal holdsRule holdsPair find lookupRefusal lookupCall addRefusal addCall
@@ -102,9 +103,9 @@ book-cases = record {
   D-not-held = refl;
   D-again = refl;
   D-again-full = refl;
-  W-1 = add-by-search W (pool 2) 1 (judging 1) (bookOf (blank 22) 0) _ refl refl refl (starred .W-two .1);
-  W-short = add-by-search W (pool 1) 1 (judging 1) none _ refl refl refl (starred .W-short .1);
-  E-spent = add-by-search E (pool 3276) 2 (judging 0) one _ refl refl refl (starred .E-spent .2);
+  W-1 = add-by-search Arbiter W (pool 2) 1 (judging 1) (bookOf (blank 22) 0) _ refl refl refl (starred .W-two .1);
+  W-short = add-by-search Arbiter W (pool 1) 1 (judging 1) none _ refl refl refl (starred .W-short .1);
+  E-spent = add-by-search Arbiter E (pool 3276) 2 (judging 0) one _ refl refl refl (starred .E-spent .2);
   W-full = refl;
   E-full = refl;
   no-entries = refl;
@@ -130,11 +131,11 @@ book-cases = record {
   rule-first = refl;
   pool-first = refl;
   book-then = refl;
-  list = ap (λ (o : BookOutcome). afterCalls (Lookup D 1 ∷ Add D 4 2 judge ∷ Add D (pool 3276) 2 judge ∷ []) (o .left)) D-one ∙ ap (λ (o : BookOutcome). o .left) D-two;
+  list = ap (λ (o : BookOutcome). afterCalls (Lookup Arbiter D 1 ∷ Add Arbiter D 4 2 judge ∷ Add Arbiter D (pool 3276) 2 judge ∷ []) (o .left)) D-one ∙ ap (λ (o : BookOutcome). o .left) D-two;
 }
   where
-    D-one : addCall D (pool 3276) 1 judge none ≡ searching one 2
-    D-one = add-by-search D (pool 3276) 1 judge none _ refl refl refl (starred .D-rule1)
+    D-one : addCall Arbiter D (pool 3276) 1 judge none ≡ searching one 2
+    D-one = add-by-search Arbiter D (pool 3276) 1 judge none _ refl refl refl (starred .D-rule1)
 
-    D-two : addCall D (pool 3276) 2 judge one ≡ searching both 1
-    D-two = add-by-search D (pool 3276) 2 judge one _ refl refl refl (starred .D-rule2)
+    D-two : addCall Arbiter D (pool 3276) 2 judge one ≡ searching both 1
+    D-two = add-by-search Arbiter D (pool 3276) 2 judge one _ refl refl refl (starred .D-rule2)

@@ -9,11 +9,15 @@ use Rattle.rules.specs.Checks.{loads}
 use Rattle.plain.specs.Plain.{recordValue}
 use Rattle.calls.specs.Calls.{valueNumber}
 use Rattle.searches.specs.Searches.{Limits}
-use Rattle.entries.specs.Entries.{Entry, ruleBits, verdictBits, find, newEntry}
+use Rattle.entries.specs.Entries.{Entry, ruleBits, verdictBits, holdsPair, find, newEntry}
 use Rattle.entries.specs.Buffers.{All, all-storing}
+use Rattle.entries.specs.Placing.{marked}
+use Rattle.entries.specs.Marks.{mark-rule, mark-verdict, all-marked, find-marked}
+use Rattle.entries.specs.declared.Caller.{Caller}
+use Rattle.entries.specs.declared.Caller.the-variants.{Arbiter}
 use Rattle.entries.specs.Finding.{IsVerdict, verdict-few, new-rule, new-verdict, find-of, find-still, find-stored}
 use Rattle.book.specs.Book.{Book, BookOutcome, used, unsearched, searchedVerdict, afterSearch, lookupCall, addCall}
-use Rattle.book.specs.Lists.{BookCall, Lookup, Add, outcomeOf, afterCalls, emptyBook}
+use Rattle.book.specs.Lists.{BookCall, Lookup, Add, Publish, outcomeOf, afterCalls, emptyBook}
 use Rattle.book.specs.BookStatement.{BookStatement}
 use Rattle.book.specs.Passing.{Fits, LookupPassed, passes-lookup, used-stored, fits-stored}
 use Rattle.book.specs.Changes.{search-value, AddSearches, add-ways, lookup-ways, Change, changed, as-it-was}
@@ -36,29 +40,37 @@ right-new bytes rule h =
     let few = verdict-few v (value-verdict bytes rule) in
     new-verdict bytes rule v few ∙ ap (λ r. valueNumber r bytes) (sym (new-rule bytes rule v few))
 
+right-marked : (e : Entry) → Right e → Right (marked e)
+unfolding Right
+right-marked e r h = rw (mark-verdict (e .last), mark-rule (e .last)) (r (subst IsVerdict (mark-verdict (e .last)) h))
+
 -- every call keeps the stored verdicts right
 right-still : (c : BookCall) (es fs : List Entry) → Change c es fs → All Right es → All Right fs
-right-still (Lookup bytes rule) es fs e r = subst (All Right) (sym e) r
-right-still (Add bytes words rule L) es fs (inl e) r = subst (All Right) (sym e) r
-right-still (Add bytes words rule L) es fs (inr s) r = subst (All Right) (sym (s .is)) (all-storing Right es _ r (right-new bytes rule))
+right-still (Lookup who bytes rule) es fs e r = subst (All Right) (sym e) r
+right-still (Add who bytes words rule L) es fs (inl e) r = subst (All Right) (sym e) r
+right-still (Add who bytes words rule L) es fs (inr s) r = subst (All Right) (sym (s .is)) (all-storing Right es _ r (right-new bytes rule))
+right-still (Publish who bytes rule) es fs (inl e) r = subst (All Right) (sym e) r
+right-still (Publish who bytes rule) es fs (inr e) r = subst (All Right) (sym e) (all-marked Right (holdsPair bytes rule) right-marked es r)
 
 -- what is found among right verdicts is the value
-found-value : (bytes : List ℕ) (rule : ℕ) (es : List Entry) → All Right es → (find bytes rule es ≡ 0 → ⊥) → find bytes rule es ≡ valueNumber rule bytes
+found-value : (who : Caller) (bytes : List ℕ) (rule : ℕ) (es : List Entry) → All Right es → (find who bytes rule es ≡ 0 → ⊥) → find who bytes rule es ≡ valueNumber rule bytes
 unfolding Right
-found-value bytes rule es r n =
-    let f = find-of bytes rule Right es r n in
+found-value who bytes rule es r n =
+    let f = find-of bytes rule who Right es r n in
     let h = f .1 in
     sym (f .2) ∙ f .3 (h .verdict) ∙ ap (valueNumber (ruleBits (f .0 .last))) (h .record-same) ∙ ap (λ r. valueNumber r bytes) (h .rule-same)
 
--- every call keeps what is found for a pair that is held
+-- every call keeps what an arbiter finds for a pair that is held
 module _ (bytes : List ℕ) (rule : ℕ) where
-  found-still : (c : BookCall) (es fs : List Entry) → Change c es fs → (find bytes rule es ≡ 0 → ⊥) → find bytes rule fs ≡ find bytes rule es
-  found-still (Lookup b r) es fs e n = ap (find bytes rule) e
-  found-still (Add b words r L) es fs (inl e) n = ap (find bytes rule) e
-  found-still (Add b words r L) es fs (inr s) n = ap (find bytes rule) (s .is) ∙ find-still bytes rule es _ n
+  found-still : (c : BookCall) (es fs : List Entry) → Change c es fs → (find Arbiter bytes rule es ≡ 0 → ⊥) → find Arbiter bytes rule fs ≡ find Arbiter bytes rule es
+  found-still (Lookup who b r) es fs e n = ap (find Arbiter bytes rule) e
+  found-still (Add who b words r L) es fs (inl e) n = ap (find Arbiter bytes rule) e
+  found-still (Add who b words r L) es fs (inr s) n = ap (find Arbiter bytes rule) (s .is) ∙ find-still bytes rule es _ n
+  found-still (Publish who b r) es fs (inl e) n = ap (find Arbiter bytes rule) e
+  found-still (Publish who b r) es fs (inr e) n = ap (find Arbiter bytes rule) e ∙ find-marked bytes rule (holdsPair b r) es
 
   -- and so along a list of calls
-  found-after : (cs : List BookCall) (B : Book) → (find bytes rule (used B) ≡ 0 → ⊥) → find bytes rule (used (afterCalls cs B)) ≡ find bytes rule (used B)
+  found-after : (cs : List BookCall) (B : Book) → (find Arbiter bytes rule (used B) ≡ 0 → ⊥) → find Arbiter bytes rule (used (afterCalls cs B)) ≡ find Arbiter bytes rule (used B)
   found-after [] B n = refl
   found-after (c ∷ cs) B n =
       let e = found-still c (used B) (used (outcomeOf c B .left)) (changed c B .step) n in
@@ -73,18 +85,19 @@ fits-after [] B f = f
 fits-after (c ∷ cs) B f = fits-after cs (outcomeOf c B .left) (changed c B .fits-still f)
 
 -- a lookup that passes its checks
-looked-up : (bytes : List ℕ) (rule : ℕ) (B : Book) → LookupPassed bytes rule B → lookupCall bytes rule B ≡ unsearched B (find bytes rule (used B))
+pub looked-up : (who : Caller) (bytes : List ℕ) (rule : ℕ) (B : Book) → LookupPassed bytes rule B → lookupCall who bytes rule B ≡ unsearched B (find who bytes rule (used B))
 unfolding lookupCall
-looked-up bytes rule B p = rw (passes-lookup bytes rule B p)
+looked-up who bytes rule B p = rw (passes-lookup bytes rule B p)
 
 -- after an add with a verdict: a lookup of the pair passes its checks and finds the verdict
 record Findable (bytes : List ℕ) (rule : ℕ) (o : BookOutcome) : Type 0 where
   pub passes : LookupPassed bytes rule (o .left)
-  pub is-found : find bytes rule (used (o .left)) ≡ o .verdict
+  pub is-found : find Arbiter bytes rule (used (o .left)) ≡ o .answer
 
-findable : (bytes : List ℕ) (words rule : ℕ) (L : Limits) (B : Book) → (addCall bytes words rule L B .verdict ≡ 0 → ⊥) → Findable bytes rule (addCall bytes words rule L B)
-findable bytes words rule L B =
-    add-ways (λ o. (o .verdict ≡ 0 → ⊥) → Findable bytes rule o) bytes words rule L B
+findable : (who : Caller) (bytes : List ℕ) (words rule : ℕ) (L : Limits) (B : Book) → (addCall who bytes words rule L B .answer ≡ 0 → ⊥)
+    → Findable bytes rule (addCall who bytes words rule L B)
+findable who bytes words rule L B =
+    add-ways (λ o. (o .answer ≡ 0 → ⊥) → Findable bytes rule o) who bytes words rule L B
     (λ n z. absurd (z refl))
     (λ v p e z. record { passes = record { loaded = p .accepted .loads; rule-most = p .accepted .rule-most; book-fits = p .book-fits }; is-found = e })
     (λ s. go s (searchedVerdict bytes words rule L) (search-value bytes words rule L (s .passed .accepted)))
@@ -97,7 +110,7 @@ findable bytes words rule L B =
         let w = loads bytes (a .loads) .bytes in
         record {
           passes = record { loaded = a .loads; rule-most = a .rule-most; book-fits = fits-stored B f bytes rule v w (s .not-full) };
-          is-found = ap (find bytes rule) (used-stored B f bytes rule v w) ∙ find-stored bytes rule (used B) (suc v) (subst IsVerdict (sym (h n)) (value-verdict bytes rule)) (s .not-held);
+          is-found = ap (find Arbiter bytes rule) (used-stored B f bytes rule v w) ∙ find-stored bytes rule (used B) (suc v) (subst IsVerdict (sym (h n)) (value-verdict bytes rule)) (s .not-held);
         }
 
 -- THE BOOK, of any buffer and any calls
@@ -106,18 +119,19 @@ book-statement buffer calls =
     let B = afterCalls calls (emptyBook buffer) in
     let r : All Right (used B) = right-after calls (emptyBook buffer) tt in
     record {
-      found = λ bytes rule. lookup-ways (λ o. (o .verdict ≡ 0 → ⊥) → o .verdict ≡ valueNumber rule bytes) bytes rule B (λ n z. absurd (z refl)) (λ h. found-value bytes rule (used B) r);
-      handed-out = λ bytes words rule L n.
-          let a = findable bytes words rule L B n in
-          let c = Add bytes words rule L in
+      found = λ who bytes rule.
+          lookup-ways (λ o. (o .answer ≡ 0 → ⊥) → o .answer ≡ valueNumber rule bytes) who bytes rule B (λ n z. absurd (z refl)) (λ h. found-value who bytes rule (used B) r);
+      handed-out = λ who bytes words rule L n.
+          let a = findable who bytes words rule L B n in
+          let c = Add who bytes words rule L in
           let fs = used (outcomeOf c B .left) in
           let s : All Right fs = right-still c (used B) fs (changed c B .step) r in
-          sym (a .is-found) ∙ found-value bytes rule fs s (λ z. n (sym (a .is-found) ∙ z));
-      kept = λ bytes words rule L later n.
-          let a = findable bytes words rule L B n in
-          let o = addCall bytes words rule L B in
+          sym (a .is-found) ∙ found-value Arbiter bytes rule fs s (λ z. n (sym (a .is-found) ∙ z));
+      kept = λ who bytes words rule L later n.
+          let a = findable who bytes words rule L B n in
+          let o = addCall who bytes words rule L B in
           let C = afterCalls later (o .left) in
           let p : LookupPassed bytes rule C = record { loaded = a .passes .loaded; rule-most = a .passes .rule-most; book-fits = fits-after later (o .left) (a .passes .book-fits) } in
-          looked-up bytes rule C p ∙ ap (unsearched C) (found-after bytes rule later (o .left) (λ z. n (sym (a .is-found) ∙ z)) ∙ a .is-found);
+          looked-up Arbiter bytes rule C p ∙ ap (unsearched C) (found-after bytes rule later (o .left) (λ z. n (sym (a .is-found) ∙ z)) ∙ a .is-found);
       refused-as-it-was = λ c. as-it-was c B;
     }

@@ -1,17 +1,20 @@
--- Lists of calls, each given the book and the count as the one before left them. Rests on Book.
+-- Lists of calls, each given the book and the count as the one before left them. Rests on Book and on the code's enum of callers.
 use mathlib.Core.List.{List, [], _∷_}
 use Prim.Native.Nat.{ℕ}
 use Rattle.searches.specs.Searches.{Limits}
-use Rattle.book.specs.Book.{Book, bookOf, BookOutcome, lookupCall, addCall}
+use Rattle.entries.specs.declared.Caller.{Caller}
+use Rattle.book.specs.Book.{Book, bookOf, BookOutcome, lookupCall, addCall, publishCall}
 
 -- A call with all that comes in beside the book; an add's pool by its length in words.
 pub data BookCall : Type 0 where
-  Lookup : (bytes : List ℕ) (rule : ℕ) → BookCall
-  Add : (bytes : List ℕ) (words rule : ℕ) → Limits → BookCall
+  Lookup : Caller → (bytes : List ℕ) (rule : ℕ) → BookCall
+  Add : Caller → (bytes : List ℕ) (words rule : ℕ) → Limits → BookCall
+  Publish : Caller → (bytes : List ℕ) (rule : ℕ) → BookCall
 
 abbrev pub outcomeOf : BookCall → Book → BookOutcome
-outcomeOf (Lookup bytes rule) B = lookupCall bytes rule B
-outcomeOf (Add bytes words rule L) B = addCall bytes words rule L B
+outcomeOf (Lookup who bytes rule) B = lookupCall who bytes rule B
+outcomeOf (Add who bytes words rule L) B = addCall who bytes words rule L B
+outcomeOf (Publish who bytes rule) B = publishCall who bytes rule B
 
 -- The book after a list of calls.
 abbrev pub afterCalls : List BookCall → Book → Book

@@ -1,13 +1,13 @@
--- What a call that passes its checks has passed, and what storing makes of a book that passes check 17. Rests on Book and on the laws of the entries and of
+-- What a call that passes its checks has passed, and what storing and marking make of a book that passes check 17. Rests on Book and on the laws of the entries and of
 -- checks.
 use mathlib.Core.Path.{_≡_, sym, ap, _∙_}
 use mathlib.Core.Bool.{false, not}
 use mathlib.Core.List.{List, [], _∷_}
-use Prim.Native.Nat.{ℕ, suc, _*_, _%_, _≤_, _<_}
+use Prim.Native.Nat.{ℕ, suc, _+_, _*_, _%_, _≤_, _<_}
 use native.Mathlib.Omega.{arith}
 use borrow.Author.Tests.{eqb-true, ltb-false, le-ltb, not-false}
 use lib.Dec.{eqb, ltb}
-use lib.ListN.{length, drop, length-append}
+use lib.ListN.{length, drop, getD, length-append, length-set}
 use Rattle.rules.specs.Record.{refusal}
 use Rattle.rules.specs.Refusals.{firstRefusal}
 use Rattle.rules.specs.RefusalLaws.{none-refuses, passes-check}
@@ -16,9 +16,10 @@ use Rattle.calls.specs.Calls.{lastRule}
 use Rattle.calls.specs.Refusing.{passes-test}
 use Rattle.searches.specs.Searches.{Limits, nodes, searchRefusal}
 use Rattle.searches.specs.Accepting.{Accepts, accepts}
-use Rattle.entries.specs.Entries.{Entry, entries, withEntries, newEntry, storing}
+use Rattle.entries.specs.Entries.{Entry, entries, withEntries, newEntry, storing, withMark, marking}
+use Rattle.entries.specs.declared.Caller.{Caller}
 use Rattle.entries.specs.Buffers.{All, Whole, all-storing, read-back, length-withEntries, length-entries, entries-whole}
-use Rattle.book.specs.Book.{Book, size, used, broken, lookupRefusal, addRefusal, storedIn}
+use Rattle.book.specs.Book.{Book, bookOf, size, used, broken, lookupRefusal, addRefusal, storedIn, publishRefusal}
 
 -- check 17 is passed
 pub record Fits (B : Book) : Type 0 where
@@ -56,11 +57,15 @@ pub record AddPassed (bytes : List ℕ) (words rule : ℕ) (L : Limits) (B : Boo
   pub accepted : Accepts bytes words rule L
   pub book-fits : Fits B
 
-pub add-passed : (bytes : List ℕ) (words rule : ℕ) (L : Limits) (B : Book) → addRefusal bytes (nodes words) rule L B ≡ 0 → AddPassed bytes words rule L B
+pub add-passed : (who : Caller) (bytes : List ℕ) (words rule : ℕ) (L : Limits) (B : Book) → addRefusal who bytes (nodes words) rule L B ≡ 0 → AddPassed bytes words rule L B
 unfolding addRefusal
-add-passed bytes words rule L B e =
-    let s = none-refuses _ _ e in
+add-passed who bytes words rule L B e =
+    let s = none-refuses _ _ (none-refuses _ _ e .1) in
     record { none = s .0; accepted = accepts bytes words rule L (s .0); book-fits = fits B (passes-check 16 (broken B) (none-refuses _ _ (s .1) .0)) }
+
+pub publish-passed : (who : Caller) (bytes : List ℕ) (rule : ℕ) (B : Book) → publishRefusal who bytes rule B ≡ 0 → LookupPassed bytes rule B
+unfolding publishRefusal
+publish-passed who bytes rule B e = lookup-passed bytes rule B (none-refuses _ _ (none-refuses _ _ e .1) .0)
 
 -- a verdict stored in a book that fits and isn't full: its used entries, and it fits still
 module _ (B : Book) (f : Fits B) (bytes : List ℕ) (rule v : ℕ) (w : length bytes ≡ 21) where
@@ -84,3 +89,7 @@ module _ (B : Book) (f : Fits B) (bytes : List ℕ) (rule v : ℕ) (w : length b
   fits-stored r =
       let e : length (withEntries new-entries (B .bytes)) ≡ length (B .bytes) = length-withEntries new-entries (B .bytes) new-whole (omega (arith, new-count)) in
       record { whole = rw e (f .whole); within = rw e (omega arith) }
+
+-- a mark set in a book that fits: it fits still
+pub fits-marked : (B : Book) → Fits B → (i : ℕ) → Fits (bookOf (marking i (B .bytes)) (B .count))
+fits-marked B f i = let e = length-set (B .bytes) (i * 22 + 21) (withMark (getD (B .bytes) (i * 22 + 21) 0)) in record { whole = rw e (f .whole); within = rw e (f .within) }

@@ -1,16 +1,19 @@
-// The calls of a book of verdicts: lookup, and add, which searches and stores. A book is a lent buffer of entries and the count of the used ones.
+// The calls of a book of verdicts: lookup; add, which searches and stores; and publish, which opens an entry to trainers. A book is a lent buffer of entries and the count of the used ones.
 
 ghost use mathlib.Core.Path.{_≡_};
 ghost use Prim.Native.Nat.{_+_, _*_, _≤_};
 ghost use lib.ListN.{length};
 ghost use Rattle.rules.specs.Record.{positionOf};
+ghost use Rattle.rules.specs.Refusals.{refuses};
 ghost use Rattle.game.specs.Words.{Holds};
+ghost use Rattle.entries.specs.Entries.{isTrainer};
 ghost use Rattle.searches.specs.Answers.{limitsOf};
 ghost use Rattle.searches.specs.Accepting.{Passed};
-ghost use Rattle.book.specs.Book.{bookOf, broken, lookupRefusal, lookupCall, addRefusal, searchedVerdict, afterSearch, addCall, PoolAfterAdd};
-ghost use Rattle.book.specs.Answers.{looked, added};
+ghost use Rattle.book.specs.Book.{bookOf, broken, lookupRefusal, lookupCall, addRefusal, searchedVerdict, afterSearch, addCall, PoolAfterAdd, publishRefusal, publishCall};
+ghost use Rattle.book.specs.Answers.{looked, added, published};
 use calls::LAST_RULE;
 use calls::refusals;
+use entries::Caller;
 use entries::ENTRY;
 use game::Game;
 use record::Loaded;
@@ -29,7 +32,21 @@ pub enum AddOutcome {
     Refused(u8),
 }
 
-// Check 17: the buffer is no whole number of entries, or the count is above them.
+// The answer of publish: the pair's first held entry has the mark; or the pair is not held; or the check that turned the call back.
+pub enum PublishOutcome {
+    Published,
+    NotHeld,
+    Refused(u8),
+}
+
+// Check 19: a trainer adds or publishes. Its number, or 0.
+fn check_caller(who: Caller) -> u8
+    ensures { λ r. ⌜ r ≡ refuses 19 (isTrainer who) ⌝ }
+{
+    refusals::refuses(19, entries::is_trainer(who))
+}
+
+// The buffer is no whole number of entries, or the count is above them.
 fn broken(book: &[u8], count: usize) -> bool
     ensures { λ r. ⌜ r ≡ broken (bookOf (now (book .entry)) count) ⌝ }
 {
@@ -37,6 +54,13 @@ fn broken(book: &[u8], count: usize) -> bool
         return true;
     }
     count > book.len() / ENTRY
+}
+
+// Check 17: the book is broken. Its number, or 0.
+fn check_book(book: &[u8], count: usize) -> u8
+    ensures { λ r. ⌜ r ≡ refuses 17 (broken (bookOf (now (book .entry)) count)) ⌝ }
+{
+    refusals::refuses(17, broken(book, count))
 }
 
 // Lookup's checks, in their order: the number of the first that refuses, or 0.
@@ -47,24 +71,25 @@ fn check_lookup(book: &[u8], count: usize, bytes: &[u8], rule: u64) -> u8
     let checks = [
         loaded.code,
         refusals::refuses(10, rule > LAST_RULE),
-        refusals::refuses(17, broken(book, count)),
+        check_book(book, count),
     ];
     refusals::first(&checks)
 }
 
 // Looks a pair up.
-pub fn lookup(book: &[u8], count: usize, bytes: &[u8], rule: u64) -> LookupOutcome
-    ensures { λ r. ⌜ looked r (bookOf (now (book .entry)) count) ≡ lookupCall (now (bytes .entry)) rule (bookOf (now (book .entry)) count) ⌝ }
+pub fn lookup(who: Caller, book: &[u8], count: usize, bytes: &[u8], rule: u64) -> LookupOutcome
+    ensures { λ r. ⌜ looked r (bookOf (now (book .entry)) count) ≡ lookupCall who (now (bytes .entry)) rule (bookOf (now (book .entry)) count) ⌝ }
 {
     let code = check_lookup(book, count, bytes, rule);
     if code != 0 {
         return LookupOutcome::Refused(code);
     }
-    LookupOutcome::Verdict(entries::find(book, count, bytes, rule))
+    LookupOutcome::Verdict(entries::find(who, book, count, bytes, rule))
 }
 
 // Add's checks up to 17, in their order, of a pool with so many nodes: 0 and the position, or the number of the first that refuses.
 fn accept_add(
+    who: Caller,
     book: &[u8],
     count: usize,
     bytes: &[u8],
@@ -72,12 +97,14 @@ fn accept_add(
     rule: u64,
     l: SearchLimits,
 ) -> Loaded
-    ensures { λ r. ⌜ r .code ≡ addRefusal (now (bytes .entry)) nodes rule (limitsOf l) (bookOf (now (book .entry)) count) ⌝ }
+    ensures { λ r. ⌜ r .code ≡ addRefusal who (now (bytes .entry)) nodes rule (limitsOf l) (bookOf (now (book .entry)) count) ⌝ }
     ensures position { λ r. ⌜ (r .code ≡ 0 → Holds (positionOf (now (bytes .entry))) (r .game .words) 0) ⌝ }
 {
-    let loaded = searches::accept(bytes, nodes, rule, l);
-    let game = loaded.game;
-    let checks = [loaded.code, refusals::refuses(17, broken(book, count))];
+    let caller = check_caller(who);
+    let accepted = searches::accept(bytes, nodes, rule, l);
+    let game = accepted.game;
+    let size = check_book(book, count);
+    let checks = [caller, accepted.code, size];
     Loaded {
         code: refusals::first(&checks),
         game,
@@ -111,6 +138,7 @@ fn search_and_store(
 
 // Adds a pair: a verdict that is held is the answer; otherwise the pair is searched for, and a True or False stored.
 pub fn add(
+    who: Caller,
     book: &mut [u8],
     count: usize,
     bytes: &[u8],
@@ -118,15 +146,15 @@ pub fn add(
     rule: u64,
     l: SearchLimits,
 ) -> AddOutcome
-    ensures { λ r. ⌜ added r (now (book .exit)) count ≡ addCall (now (bytes .entry)) (length (now (words .entry))) rule (limitsOf l) (bookOf (now (book .entry)) count) ⌝ }
+    ensures { λ r. ⌜ added r (now (book .exit)) count ≡ addCall who (now (bytes .entry)) (length (now (words .entry))) rule (limitsOf l) (bookOf (now (book .entry)) count) ⌝ }
     ensures pool { λ r. ⌜ PoolAfterAdd (added r (now (book .exit)) count .searched) (now (words .entry)) (now (words .exit)) ⌝ }
 {
     let nodes = node_pool::capacity(words);
-    let loaded = accept_add(book, count, bytes, nodes, rule, l);
+    let loaded = accept_add(who, book, count, bytes, nodes, rule, l);
     if loaded.code != 0 {
         return AddOutcome::Refused(loaded.code);
     }
-    let held = entries::find(book, count, bytes, rule);
+    let held = entries::find(Caller::Arbiter, book, count, bytes, rule);
     if held != 0 {
         return AddOutcome::Held(held);
     }
@@ -135,4 +163,36 @@ pub fn add(
     }
     let start = loaded.game;
     search_and_store(book, count, bytes, start, words, rule, l)
+}
+
+// Publish's checks, in their order: the number of the first that refuses, or 0.
+fn check_publish(who: Caller, book: &[u8], count: usize, bytes: &[u8], rule: u64) -> u8
+    ensures { λ r. ⌜ r ≡ publishRefusal who (now (bytes .entry)) rule (bookOf (now (book .entry)) count) ⌝ }
+{
+    let caller = check_caller(who);
+    let pair = check_lookup(book, count, bytes, rule);
+    let checks = [caller, pair];
+    refusals::first(&checks)
+}
+
+// Publishes a pair: sets the mark in the first entry that holds it.
+pub fn publish(
+    who: Caller,
+    book: &mut [u8],
+    count: usize,
+    bytes: &[u8],
+    rule: u64,
+) -> PublishOutcome
+    ensures { λ r. ⌜ published r (now (book .exit)) count ≡ publishCall who (now (bytes .entry)) rule (bookOf (now (book .entry)) count) ⌝ }
+{
+    let code = check_publish(who, book, count, bytes, rule);
+    if code != 0 {
+        return PublishOutcome::Refused(code);
+    }
+    let i = entries::first(Caller::Arbiter, book, count, bytes, rule);
+    if i >= count {
+        return PublishOutcome::NotHeld;
+    }
+    entries::mark(book, i);
+    PublishOutcome::Published
 }

@@ -1,22 +1,42 @@
--- The entries of a book of verdicts (MANUAL, Book of verdicts): what their 22 bytes say, which of them answers for a pair of a record and a rule, and a buffer with
--- entries at its front. Rests on the library's numbers and lists alone.
+-- The entries of a book of verdicts (MANUAL, Book of verdicts): what their 22 bytes say, who may read them, which of them answers a caller for a pair of a record
+-- and a rule, and buffers with entries at the front and with a mark set. Rests on the library's numbers and lists, and on the code's enum of callers.
 use mathlib.Core.Bool.{Bool, true, false, cond, _&&_, _||_}
 use mathlib.Core.List.{List, [], _∷_, _++_}
 use Prim.Native.Nat.{ℕ, zero, suc, _+_, _*_, _/_, _%_}
 use lib.Dec.{eqb}
-use lib.ListN.{length, getD, take, drop}
+use lib.ListN.{length, getD, take, drop, set}
+use Rattle.entries.specs.declared.Caller.{Caller}
+use Rattle.entries.specs.declared.Caller.the-variants.{Arbiter, Trainer}
 
 -- An entry: a record's 21 bytes, and a last byte.
 pub record Entry : Type 0 where
   pub bytes : List ℕ
   pub last : ℕ
 
--- A last byte has, most significant first, two bits of rule, two of verdict (1 True, 2 False), and four that are stored as zeros and never looked at.
+-- A last byte has, most significant first, two bits of rule, two of verdict (1 True, 2 False), three that are stored as zeros and never looked at, and the
+-- published mark.
 abbrev pub ruleBits : (last : ℕ) → ℕ
 ruleBits last = last / 64
 
 abbrev pub verdictBits : (last : ℕ) → ℕ
 verdictBits last = last / 16 % 4
+
+abbrev pub isPublished : (last : ℕ) → Bool
+isPublished last = eqb (last % 2) 1
+
+-- A caller is an arbiter or a trainer: the code's enum. C has it as a bool, false (0) an arbiter, true (1) a trainer.
+abbrev pub isTrainer : Caller → Bool
+isTrainer Arbiter = false
+isTrainer Trainer = true
+
+abbrev pub callerOf : (trainer : Bool) → Caller
+callerOf false = Arbiter
+callerOf true = Trainer
+
+-- An arbiter may read every entry, a trainer the published ones.
+abbrev pub mayRead : Caller → (last : ℕ) → Bool
+mayRead Arbiter last = true
+mayRead Trainer last = isPublished last
 
 -- The entry at the front of a buffer; the first n entries, 22 bytes each.
 abbrev pub entryOf : List ℕ → Entry
@@ -52,18 +72,34 @@ holdsRule rule last = eqb (ruleBits last) rule && hasVerdict last
 unfoldable pub holdsPair : (bytes : List ℕ) (rule : ℕ) → Entry → Bool
 holdsPair bytes rule e = sameBytes (e .bytes) bytes && holdsRule rule (e .last)
 
+-- An entry answers a caller for a pair if the caller may read it and it holds the pair.
+abbrev pub answers : Caller → (bytes : List ℕ) (rule : ℕ) → Entry → Bool
+answers who bytes rule e = mayRead who (e .last) && holdsPair bytes rule e
+
 -- The verdict of the first entry that a test picks; 0 if it picks none.
 abbrev pub firstVerdict : (Entry → Bool) → List Entry → ℕ
 firstVerdict test [] = 0
 firstVerdict test (e ∷ es) = cond (test e) (verdictBits (e .last)) (firstVerdict test es)
 
--- What is found for a pair among the used entries: 1 True, 2 False, 0 not held.
-unfoldable pub find : (bytes : List ℕ) (rule : ℕ) → List Entry → ℕ
-find bytes rule es = firstVerdict (holdsPair bytes rule) es
+-- What a caller finds for a pair among the used entries: 1 True, 2 False, 0 not held.
+unfoldable pub find : Caller → (bytes : List ℕ) (rule : ℕ) → List Entry → ℕ
+find who bytes rule es = firstVerdict (answers who bytes rule) es
 
--- A new entry of a pair and a verdict; entries with one more after them.
+-- How many entries come before the first that a test picks: all of them if it picks none.
+abbrev pub place : (Entry → Bool) → List Entry → ℕ
+place test [] = 0
+place test (e ∷ es) = cond (test e) 0 (suc (place test es))
+
+-- A new entry of a pair and a verdict, without the mark; entries with one more after them.
 abbrev pub newEntry : (bytes : List ℕ) (rule verdict : ℕ) → Entry
 newEntry bytes rule verdict = record { bytes = bytes; last = rule * 64 + verdict * 16 }
 
 abbrev pub storing : Entry → List Entry → List Entry
 storing e es = es ++ (e ∷ [])
+
+-- A last byte with the mark, its last bit; a buffer with the mark set in the entry after the first i.
+abbrev pub withMark : (last : ℕ) → ℕ
+withMark last = last / 2 * 2 + 1
+
+abbrev pub marking : (i : ℕ) → (buffer : List ℕ) → List ℕ
+marking i buffer = set buffer (i * 22 + 21) (withMark (getD buffer (i * 22 + 21) 0))

@@ -1,4 +1,4 @@
--- What is found among entries: the entry that holds the pair, and what storing one more changes. Rests on Entries and Buffers.
+-- What a caller finds among entries: the entry that answers, and what storing one more changes. Rests on Entries and Buffers.
 use mathlib.Core.Path.{_≡_, refl, _∙_}
 use mathlib.Core.Bool.{Bool, true, false, cond, _||_, false≢true}
 use mathlib.Core.List.{List, [], _∷_}
@@ -8,8 +8,10 @@ use native.Mathlib.Omega.{arith}
 use borrow.Author.Tests.{eqb-true, eq-eqb}
 use lib.Dec.{eqb}
 use Rattle.rules.specs.Tests.{both-true, one-true}
-use Rattle.entries.specs.Entries.{Entry, ruleBits, verdictBits, sameBytes, hasVerdict, holdsRule, holdsPair, firstVerdict, find, newEntry, storing}
+use Rattle.entries.specs.Entries.{Entry, ruleBits, verdictBits, mayRead, sameBytes, hasVerdict, holdsRule, holdsPair, answers, firstVerdict, find, newEntry, storing}
 use Rattle.entries.specs.Buffers.{All}
+use Rattle.entries.specs.declared.Caller.{Caller}
+use Rattle.entries.specs.declared.Caller.the-variants.{Arbiter}
 
 -- the same bytes are equal lists, and back
 pub same-equal : (xs ys : List ℕ) → sameBytes xs ys ≡ true → xs ≡ ys
@@ -55,8 +57,12 @@ entry-of-pair bytes rule e h =
     go (inl p) = inl (eqb-true _ 1 p)
     go (inr p) = inr (eqb-true _ 2 p)
 
-pair-verdict : (bytes : List ℕ) (rule : ℕ) (e : Entry) → holdsPair bytes rule e ≡ true → verdictBits (e .last) ≡ 0 → ⊥
+pub pair-verdict : (bytes : List ℕ) (rule : ℕ) (e : Entry) → holdsPair bytes rule e ≡ true → verdictBits (e .last) ≡ 0 → ⊥
 pair-verdict bytes rule e h = verdict-some (verdictBits (e .last)) (entry-of-pair bytes rule e h .verdict)
+
+-- an entry that answers a caller holds the pair
+pub answers-holds : (who : Caller) (bytes : List ℕ) (rule : ℕ) (e : Entry) → answers who bytes rule e ≡ true → holdsPair bytes rule e ≡ true
+answers-holds who bytes rule e h = both-true (mayRead who (e .last)) (holdsPair bytes rule e) h .1
 
 -- the first verdict, for any test
 module _ (t : Entry → Bool) where
@@ -109,17 +115,20 @@ module _ (bytes : List ℕ) (rule : ℕ) where
       go v (inr p) = rw p
 
   -- the entry that a verdict is found in
-  pub find-of : (P : Entry → Type 0) (es : List Entry) → All P es → (find bytes rule es ≡ 0 → ⊥) → (e : Entry) × EntryOfPair bytes rule e × (verdictBits (e .last) ≡ find bytes rule es) × P e
+  pub find-of : (who : Caller) (P : Entry → Type 0) (es : List Entry) → All P es → (find who bytes rule es ≡ 0 → ⊥)
+      → (e : Entry) × EntryOfPair bytes rule e × (verdictBits (e .last) ≡ find who bytes rule es) × P e
   unfolding find
-  find-of P es h n = let f = first-of (holdsPair bytes rule) P es h n in (f .0, entry-of-pair bytes rule (f .0) (f .1), f .2, f .3)
+  find-of who P es h n =
+      let f = first-of (answers who bytes rule) P es h n in
+      (f .0, entry-of-pair bytes rule (f .0) (answers-holds who bytes rule (f .0) (f .1)), f .2, f .3)
 
   -- a pair that is held is found as before with one entry more
-  pub find-still : (es : List Entry) (x : Entry) → (find bytes rule es ≡ 0 → ⊥) → find bytes rule (storing x es) ≡ find bytes rule es
+  pub find-still : (es : List Entry) (x : Entry) → (find Arbiter bytes rule es ≡ 0 → ⊥) → find Arbiter bytes rule (storing x es) ≡ find Arbiter bytes rule es
   unfolding find
   find-still es x n = first-still (holdsPair bytes rule) (pair-verdict bytes rule) es x n
 
   -- a pair that is not held is found with the verdict that is stored
-  pub find-stored : (es : List Entry) (v : ℕ) → IsVerdict v → find bytes rule es ≡ 0 → find bytes rule (storing (newEntry bytes rule v) es) ≡ v
+  pub find-stored : (es : List Entry) (v : ℕ) → IsVerdict v → find Arbiter bytes rule es ≡ 0 → find Arbiter bytes rule (storing (newEntry bytes rule v) es) ≡ v
   unfolding find
   find-stored es v h z =
       first-new (holdsPair bytes rule) (pair-verdict bytes rule) es (newEntry bytes rule v) (new-holds v h) z ∙ new-verdict bytes rule v (verdict-few v h)

@@ -1,6 +1,6 @@
--- The scan of a book, as its loop goes: what the tests of an entry tell, and that the entries that are left decide what is found. Rests on Entries.
+-- The scan of a book, as its loop goes: what the tests of an entry tell, and that the entries that are left decide which is the first. Rests on Entries.
 use mathlib.Core.Path.{_≡_, refl, sym, ap, _∙_}
-use mathlib.Core.Bool.{Bool, true, false, cond, _||_}
+use mathlib.Core.Bool.{Bool, true, false, cond, _&&_, _||_, and-false}
 use mathlib.Core.List.{List}
 use Prim.Native.Nat.{ℕ, zero, suc, _+_, _*_, _-_, _≤_, _<_}
 use native.Mathlib.Omega.{arith}
@@ -9,7 +9,8 @@ use borrow.Author.Tests.{eq-eqb, ne-eqb}
 use lib.Dec.{eqb}
 use lib.ListN.{take, drop, getD}
 use lib.Seq.{drop-drop, getD-drop}
-use Rattle.entries.specs.Entries.{Entry, entryOf, entries, ruleBits, verdictBits, hasVerdict, sameBytes, holdsRule, holdsPair, find}
+use Rattle.entries.specs.Entries.{Entry, entryOf, entries, ruleBits, verdictBits, mayRead, hasVerdict, sameBytes, holdsRule, holdsPair, answers, place}
+use Rattle.entries.specs.declared.Caller.{Caller}
 
 -- the record bytes of the entry at a place
 abbrev pub recordAt : (book : List ℕ) (at : ℕ) → List ℕ
@@ -41,46 +42,61 @@ module _ (rule last : ℕ) where
   unfolding holdsRule
   own-rule e b h = rw (eq-eqb (ruleBits last) rule e) h
 
--- what the tests of an entry tell
-module _ (book bytes : List ℕ) (at rule : ℕ) where
-  pub other-record : false ≡ sameBytes (recordAt book at) bytes → false ≡ holdsPair bytes rule (entryOf (drop at book))
-  unfolding holdsPair
-  other-record e = rw (← e)
+-- what the test of the caller tells, of a last byte that holds the rule and of one that doesn't
+pub if-read : (b h : Bool) → true ≡ h → b ≡ (b && h)
+if-read true h e = e
+if-read false h e = refl
 
-  pub own-record : true ≡ sameBytes (recordAt book at) bytes → (b : Bool) → b ≡ holdsRule rule (getD book (at + 21) 0) → b ≡ holdsPair bytes rule (entryOf (drop at book))
+pub none-read : (b h : Bool) → false ≡ h → false ≡ (b && h)
+none-read b h e = rw (← e, and-false b)
+
+-- what the tests of an entry tell
+module _ (who : Caller) (book bytes : List ℕ) (at rule : ℕ) where
+  pub other-record : false ≡ sameBytes (recordAt book at) bytes → false ≡ answers who bytes rule (entryOf (drop at book))
+  unfolding holdsPair
+  other-record e = rw (← e, and-false (mayRead who (getD (drop at book) 21 0)))
+
+  pub own-record : true ≡ sameBytes (recordAt book at) bytes → (b : Bool) → (let last = getD book (at + 21) 0 in b ≡ (mayRead who last && holdsRule rule last))
+      → b ≡ answers who bytes rule (entryOf (drop at book))
   unfolding holdsPair
   own-record e b h = rw (← e, getD-drop at book 21 0) h
 
--- what is found among all is found among those after the first i
-pub record Scanning (book bytes : List ℕ) (rule count i : ℕ) : Type 0 where
+-- the first entry that a test picks lies after the first i
+pub record Scanning (test : Entry → Bool) (book : List ℕ) (count i : ℕ) : Type 0 where
   pub within : i ≤ count
-  pub same : find bytes rule (entries count book) ≡ find bytes rule (entries (count - i) (drop (i * 22) book))
+  pub same : place test (entries count book) ≡ i + place test (entries (count - i) (drop (i * 22) book))
 
-module _ (book bytes : List ℕ) (rule count : ℕ) where
-  pub scanning-start : Scanning book bytes rule count 0
-  scanning-start = let e : count - 0 ≡ count = omega arith in record { within = omega arith; same = ap (λ k. find bytes rule (entries k book)) (sym e) }
+module _ (test : Entry → Bool) (book : List ℕ) (count : ℕ) where
+  pub scanning-start : Scanning test book count 0
+  scanning-start =
+      let e : count - 0 ≡ count = omega arith in
+      let p : place test (entries count book) ≡ place test (entries (count - 0) (drop (0 * 22) book)) = ap (λ k. place test (entries k book)) (sym e) in
+      record { within = omega arith; same = omega (arith, p) }
 
-  module _ (i : ℕ) (s : Scanning book bytes rule count i) where
+  module _ (i : ℕ) (s : Scanning test book count i) where
     module _ (h : i < count) where
-      here : Entry
-      here = entryOf (drop (i * 22) book)
+      left : ℕ
+      left = place test (entries (count - suc i) (drop (suc i * 22) book))
 
-      next-entry : find bytes rule (entries count book) ≡ cond (holdsPair bytes rule here) (verdictBits (here .last)) (find bytes rule (entries (count - suc i) (drop (suc i * 22) book)))
-      unfolding find here
+      next-entry : place test (entries count book) ≡ i + cond (test (entryOf (drop (i * 22) book))) 0 (suc left)
+      unfolding left
       next-entry =
           let e : count - i ≡ suc (count - suc i) = omega arith in
           let n : i * 22 + 22 ≡ suc i * 22 = omega arith in
           let d : drop 22 (drop (i * 22) book) ≡ drop (suc i * 22) book = drop-drop 22 (i * 22) book ∙ ap (λ k. drop k book) n in
           s .same ∙ rw (e, d)
 
-      pub scanning-found : holdsPair bytes rule (entryOf (drop (i * 22) book)) ≡ true → verdictBits (getD book (i * 22 + 21) 0) ≡ find bytes rule (entries count book)
-      unfolding here
-      scanning-found t = sym (next-entry ∙ rw (t, getD-drop (i * 22) book 21 0))
+      pub scanning-found : test (entryOf (drop (i * 22) book)) ≡ true → i ≡ place test (entries count book)
+      scanning-found t = let e : place test (entries count book) ≡ i + 0 = next-entry ∙ rw t in omega (arith, e)
 
-      pub scanning-next : holdsPair bytes rule (entryOf (drop (i * 22) book)) ≡ false → Scanning book bytes rule count (i + 1)
-      unfolding here
-      scanning-next t = record { within = omega arith; same = rw add-one (next-entry ∙ rw t) }
+      pub scanning-next : test (entryOf (drop (i * 22) book)) ≡ false → Scanning test book count (i + 1)
+      unfolding left
+      scanning-next t =
+          let e : place test (entries count book) ≡ i + suc left = next-entry ∙ rw t in
+          record { within = omega arith; same = rw add-one (omega (arith, e)) }
 
-    pub scanning-end : count ≤ i → 0 ≡ find bytes rule (entries count book)
-    unfolding find
-    scanning-end h = let e : count - i ≡ 0 = omega arith in sym (s .same ∙ rw e)
+    pub scanning-end : count ≤ i → count ≡ place test (entries count book)
+    scanning-end h =
+        let e : count - i ≡ 0 = omega arith in
+        let p : place test (entries count book) ≡ i + 0 = s .same ∙ rw e in
+        omega (arith, s .within, p)

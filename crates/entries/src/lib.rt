@@ -1,9 +1,11 @@
-// The entries of a book of verdicts in a lent buffer: the scan for a pair of a record and a rule, and the storing of a new entry.
+// The entries of a book of verdicts in a lent buffer: the scan for a pair of a record and a rule, the storing of a new entry, and the published mark.
 
 ghost use mathlib.Core.Path.{_≡_};
+ghost use mathlib.Core.Bool.{_&&_};
 ghost use Prim.Native.Nat.{_+_, _*_, _≤_, _<_};
 ghost use lib.ListN.{length, drop};
-ghost use Rattle.entries.specs.Entries.{ruleBits, entryOf, entries, hasVerdict, sameBytes, holdsRule, holdsPair, find, newEntry, storing, withEntries};
+ghost use Rattle.entries.specs.Entries.{ruleBits, isTrainer, callerOf, mayRead, entryOf, entries, hasVerdict, sameBytes, holdsRule, answers, find, place};
+ghost use Rattle.entries.specs.Entries.{newEntry, storing, withEntries, withMark, marking};
 ghost use Rattle.entries.specs.Scanning.{recordAt};
 ghost use Rattle.entries.specs.SameWords.{littleEndian, SameWord};
 
@@ -11,6 +13,43 @@ ghost use Rattle.entries.specs.SameWords.{littleEndian, SameWord};
 const RECORD: usize = 21;
 
 pub const ENTRY: usize = 22;
+
+// Who is calling.
+pub enum Caller {
+    Arbiter,
+    Trainer,
+}
+
+// The caller, as C names it: a trainer or not.
+pub fn caller_of(trainer: bool) -> Caller
+    ensures { λ r. ⌜ r ≡ callerOf trainer ⌝ }
+{
+    if trainer {
+        Caller::Trainer
+    } else {
+        Caller::Arbiter
+    }
+}
+
+// The caller is a trainer.
+pub fn is_trainer(who: Caller) -> bool
+    ensures { λ r. ⌜ r ≡ isTrainer who ⌝ }
+{
+    match who {
+        Caller::Arbiter => false,
+        Caller::Trainer => true,
+    }
+}
+
+// The caller may read an entry with such a last byte.
+fn may_read(who: Caller, last: u8) -> bool
+    ensures { λ r. ⌜ r ≡ mayRead who last ⌝ }
+{
+    match who {
+        Caller::Arbiter => true,
+        Caller::Trainer => last % 2 == 1,
+    }
+}
 
 // Two bytes from byte k on, the least significant first. Words are only compared, and in this order the compiled code reads each as one.
 fn two_little_endian(bytes: &[u8], k: usize) -> u64
@@ -87,32 +126,55 @@ fn holds_rule(rule: u64, last: u8) -> bool
     has_verdict(last)
 }
 
-// The entry at a place holds the pair. Its last byte is read only if its record is the same.
-fn holds_at(book: &[u8], at: usize, bytes: &[u8], rule: u64) -> bool
-    requires { ⌜ (length (now bytes) ≡ 21) × (at + 22 ≤ length (now book)) ⌝ }
-    ensures { λ r. ⌜ r ≡ holdsPair (now (bytes .entry)) rule (entryOf (drop at (now (book .entry)))) ⌝ }
+// An entry with such a last byte, of the pair's record, answers the caller.
+fn answers_rule(who: Caller, rule: u64, last: u8) -> bool
+    ensures { λ r. ⌜ r ≡ (mayRead who last && holdsRule rule last) ⌝ }
 {
-    if same_at(book, at, bytes) {
-        holds_rule(rule, book[at + RECORD])
+    if holds_rule(rule, last) {
+        may_read(who, last)
     } else {
         false
     }
 }
 
-// What is found for a pair among so many entries, the first that holds it: 1 True, 2 False, 0 not held.
-pub fn find(book: &[u8], count: usize, bytes: &[u8], rule: u64) -> u8
+// The entry at a place answers the caller for the pair. Its last byte is read only if its record is the same.
+fn answers_at(who: Caller, book: &[u8], at: usize, bytes: &[u8], rule: u64) -> bool
+    requires { ⌜ (length (now bytes) ≡ 21) × (at + 22 ≤ length (now book)) ⌝ }
+    ensures { λ r. ⌜ r ≡ answers who (now (bytes .entry)) rule (entryOf (drop at (now (book .entry)))) ⌝ }
+{
+    if same_at(book, at, bytes) {
+        answers_rule(who, rule, book[at + RECORD])
+    } else {
+        false
+    }
+}
+
+// How many of so many entries come before the first that answers the caller for the pair: all of them if none does.
+pub fn first(who: Caller, book: &[u8], count: usize, bytes: &[u8], rule: u64) -> usize
     requires { ⌜ (length (now bytes) ≡ 21) × (count * 22 ≤ length (now book)) ⌝ }
-    ensures { λ r. ⌜ r ≡ find (now (bytes .entry)) rule (entries count (now (book .entry))) ⌝ }
+    ensures { λ r. ⌜ r ≡ place (answers who (now (bytes .entry)) rule) (entries count (now (book .entry))) ⌝ }
 {
     let mut i: usize = 0;
     while i < count {
-        let at = i * ENTRY;
-        if holds_at(book, at, bytes, rule) {
-            return book[at + RECORD] / 16 % 4;
+        if answers_at(who, book, i * ENTRY, bytes, rule) {
+            return i;
         }
         i += 1;
     }
-    0
+    count
+}
+
+// What the caller finds for the pair among so many entries: 1 True, 2 False, 0 not held.
+pub fn find(who: Caller, book: &[u8], count: usize, bytes: &[u8], rule: u64) -> u8
+    requires { ⌜ (length (now bytes) ≡ 21) × (count * 22 ≤ length (now book)) ⌝ }
+    ensures { λ r. ⌜ r ≡ find who (now (bytes .entry)) rule (entries count (now (book .entry))) ⌝ }
+{
+    let i = first(who, book, count, bytes, rule);
+    if i < count {
+        book[i * ENTRY + RECORD] / 16 % 4
+    } else {
+        0
+    }
 }
 
 // The last byte of a new entry.
@@ -135,4 +197,20 @@ pub fn store(book: &mut [u8], count: usize, bytes: &[u8], rule: u64, verdict: u8
         j += 1;
     }
     book[at + RECORD] = last_byte(rule, verdict);
+}
+
+// A last byte with the mark.
+fn with_mark(last: u8) -> u8
+    ensures { λ r. ⌜ r ≡ withMark last ⌝ }
+{
+    last / 2 * 2 + 1
+}
+
+// Sets the mark in the entry after the first i.
+pub fn mark(book: &mut [u8], i: usize)
+    requires { ⌜ i * 22 + 22 ≤ length (now book) ⌝ }
+    ensures { λ r. ⌜ now (book .exit) ≡ marking i (now (book .entry)) ⌝ }
+{
+    let at = i * ENTRY + RECORD;
+    book[at] = with_mark(book[at]);
 }

@@ -16,6 +16,7 @@ use Rattle.plain.specs.Oracle.{last-x}
 use Rattle.referee.specs.OpenCells.{openCells}
 use Rattle.calls.specs.Calls.{replayOutcome, refereeOutcome, afterMoves, outputRefusal, replayCall, movesCall, refereeRefusal, refereeCall}
 use Rattle.book.specs.Cases.{BookCases, book-cases}
+use Rattle.book.specs.TrainerCases.{TrainerCases, trainer-cases}
 use Rattle.cells.specs.Cases.{WordsCases, words-cases}
 use Rattle.sheets.specs.Cases.{SheetsCases, sheets-cases}
 use Rattle.searches.specs.SearchAnswers.{search-answered, full-with}
@@ -93,6 +94,7 @@ pub record Cases : Type 0 where
   pub sheets : SheetsCases
   -- a book of verdicts: the cases of crate book
   pub book : BookCases
+  pub trainers : TrainerCases
   -- a record's three words: the cases of crate cells; E with 03 32 and with 32, which take cell 29, and code 3 there
   pub words : WordsCases
   pub O-29 : replayCall E (0x03 ∷ 0x32 ∷ []) out21 ≡ replayOutcome 0 0 (record21 0x100800000000000100000000000000000000000000)
@@ -139,6 +141,7 @@ cases = record {
   full-short = room-cases.full-short;
   sheets = sheets-cases;
   book = book-cases;
+  trainers = trainer-cases;
   words = words-cases;
   O-29 = refl;
   X-29 = refl;

@@ -1,12 +1,14 @@
-// The calls of the book of verdicts as C has them.
+// The calls of the book of verdicts as C has them. `trainer` says who is calling: false an arbiter, true a trainer.
 
 ghost use mathlib.Core.Path.{_≡_};
 ghost use mathlib.Core.Bool.{false};
 ghost use lib.ListN.{length};
 ghost use Rattle.searches.specs.Searches.{limits};
-ghost use Rattle.book.specs.Book.{bookOf, bookOutcome, lookupCall, addCall, PoolAfterAdd};
+ghost use Rattle.entries.specs.Entries.{callerOf};
+ghost use Rattle.book.specs.Book.{bookOf, bookOutcome, lookupCall, addCall, publishCall, PoolAfterAdd};
 use book::AddOutcome;
 use book::LookupOutcome;
+use book::PublishOutcome;
 use searches::SearchLimits;
 
 // The answer of lookup as C has it: code is 0 or the refusal's number; index is 0; verdict is 1 for True, 2 for False, 0 if the pair is not held and with a
@@ -19,10 +21,18 @@ pub struct LookupAnswer {
 }
 
 #[no_mangle]
-pub extern "C" fn uttt_book_lookup(book: &[u8], count: u64, bytes: &[u8], rule: u64) -> LookupAnswer
-    ensures { λ r. ⌜ bookOutcome (r .code) (r .index) (r .verdict) false (bookOf (now (book .entry)) count) ≡ lookupCall (now (bytes .entry)) rule (bookOf (now (book .entry)) count) ⌝ }
+pub extern "C" fn uttt_book_lookup(
+    trainer: bool,
+    book: &[u8],
+    count: u64,
+    bytes: &[u8],
+    rule: u64,
+) -> LookupAnswer
+    ensures { λ r. ⌜ bookOutcome (r .code) (r .index) (r .verdict) false (bookOf (now (book .entry)) count) ≡
+        lookupCall (callerOf trainer) (now (bytes .entry)) rule (bookOf (now (book .entry)) count) ⌝ }
 {
-    let answer = book::lookup(book, count as usize, bytes, rule);
+    let who = entries::caller_of(trainer);
+    let answer = book::lookup(who, book, count as usize, bytes, rule);
     match answer {
         LookupOutcome::Verdict(v) => LookupAnswer {
             code: 0,
@@ -49,6 +59,7 @@ pub struct AddAnswer {
 
 #[no_mangle]
 pub extern "C" fn uttt_book_add(
+    trainer: bool,
     book: &mut [u8],
     count: u64,
     bytes: &[u8],
@@ -58,17 +69,18 @@ pub extern "C" fn uttt_book_add(
     budget: u64,
     interval: u64,
 ) -> AddAnswer
-    ensures { λ r. ⌜ (let o = addCall (now (bytes .entry)) (length (now (words .entry))) rule (limits limit budget interval) (bookOf (now (book .entry)) count) in
+    ensures { λ r. ⌜ (let o = addCall (callerOf trainer) (now (bytes .entry)) (length (now (words .entry))) rule (limits limit budget interval) (bookOf (now (book .entry)) count) in
         bookOutcome (r .code) (r .index) (r .verdict) (o .searched) (bookOf (now (book .exit)) (r .count)) ≡ o) ⌝ }
     ensures pool { λ r. ⌜ PoolAfterAdd
-        (addCall (now (bytes .entry)) (length (now (words .entry))) rule (limits limit budget interval) (bookOf (now (book .entry)) count) .searched) (now (words .entry)) (now (words .exit)) ⌝ }
+        (addCall (callerOf trainer) (now (bytes .entry)) (length (now (words .entry))) rule (limits limit budget interval) (bookOf (now (book .entry)) count) .searched) (now (words .entry)) (now (words .exit)) ⌝ }
 {
     let l = SearchLimits {
         limit,
         budget,
         interval,
     };
-    let answer = book::add(book, count as usize, bytes, words, rule, l);
+    let who = entries::caller_of(trainer);
+    let answer = book::add(who, book, count as usize, bytes, words, rule, l);
     match answer {
         AddOutcome::Held(v) => AddAnswer {
             code: 0,
@@ -87,6 +99,46 @@ pub extern "C" fn uttt_book_add(
             index: 0,
             verdict: 0,
             count,
+        },
+    }
+}
+
+// The answer of publish as C has it: code is 0 or the refusal's number; index is 0; published is 1, or 0 if the pair is not held and with a refusal.
+#[repr(C)]
+pub struct PublishAnswer {
+    pub code: u32,
+    pub index: u64,
+    pub published: u32,
+}
+
+#[no_mangle]
+pub extern "C" fn uttt_book_publish(
+    trainer: bool,
+    book: &mut [u8],
+    count: u64,
+    bytes: &[u8],
+    rule: u64,
+) -> PublishAnswer
+    ensures { λ r. ⌜ bookOutcome (r .code) (r .index) (r .published) false (bookOf (now (book .exit)) count) ≡
+        publishCall (callerOf trainer) (now (bytes .entry)) rule (bookOf (now (book .entry)) count) ⌝ }
+{
+    let who = entries::caller_of(trainer);
+    let answer = book::publish(who, book, count as usize, bytes, rule);
+    match answer {
+        PublishOutcome::Published => PublishAnswer {
+            code: 0,
+            index: 0,
+            published: 1,
+        },
+        PublishOutcome::NotHeld => PublishAnswer {
+            code: 0,
+            index: 0,
+            published: 0,
+        },
+        PublishOutcome::Refused(n) => PublishAnswer {
+            code: n as u32,
+            index: 0,
+            published: 0,
         },
     }
 }

@@ -1,7 +1,11 @@
 //! Records for the tests.
 #![allow(dead_code)]
 
-use ultimattt::{Pool, Record, Settings, EMPTY_GAME};
+pub mod book;
+
+use ultimattt::{Pool, Record, Rule, Settings, EMPTY_GAME};
+
+pub const RULES: [Rule; 3] = [Rule::DrawLostByMover, Rule::DrawFalse, Rule::DrawTrue];
 
 pub const X: u8 = 1;
 pub const O: u8 = 2;
@@ -49,6 +53,20 @@ pub fn w() -> Record {
 pub fn d(target: u8) -> Record {
     let of_x: (&[usize], &[usize], u8) = (&[0, 1, 5, 6, 7], &[0, 1, 2], X);
     x_to_move(target, &[of_x, (&[2, 3, 4, 8], &[0, 1, 2], O), (&[0], &[3, 4], O), (&[1], &[3], O)])
+}
+
+/// Records that checks 1 to 6 refuse, in their order.
+pub fn refused_records() -> [Vec<u8>; 6] {
+    let of_both: (&[usize], &[usize], u8) = (&[0], &[3, 4, 5], O);
+    let won: (&[usize], &[usize], u8) = (&[0, 1, 2], &[0, 1, 2], X);
+    [
+        vec![],
+        x_to_move(9, &[]).to_vec(),
+        x_to_move(FREE_CHOICE, &[(&[0], &[0], X)]).to_vec(),
+        x_to_move(FREE_CHOICE, &[(&[0], &[0, 1, 2], X), of_both]).to_vec(),
+        x_to_move(FREE_CHOICE, &[won, (&[3, 4, 5], &[0, 1, 3], O)]).to_vec(),
+        d(0).to_vec(),
+    ]
 }
 
 pub fn pool(nodes: usize) -> Pool {

@@ -29,7 +29,7 @@ returns c =
     let B = bookOf (start .args .book .now) (start .args .count) in
     let words = length (start .args .words .now) in
     let L = limitsOf (start .args .l) in
-    (add-turned _ words _ L B (checked .accept-add .ensures .0) (counted .capacity .ensures) (c .if1 .taken), refl)
+    (add-turned _ _ words _ L B (checked .accept-add .ensures .0) (counted .capacity .ensures) (c .if1 .taken), refl)
 
 find-requires : tie.Need-find-requires
 find-requires c κs =
@@ -40,7 +40,7 @@ find-requires c κs =
     let B = bookOf (start .args .book .now) (start .args .count) in
     let words = length (start .args .words .now) in
     let L = limitsOf (start .args .l) in
-    add-scans _ words _ L B (checked .accept-add .ensures .0) (counted .capacity .ensures) (passed .if1 .left)
+    add-scans _ _ words _ L B (checked .accept-add .ensures .0) (counted .capacity .ensures) (passed .if1 .left)
 
 same-length-3 : tie.Need-same-length-3
 same-length-3 c = search needs
@@ -58,7 +58,7 @@ returns-2 c =
     let B = bookOf (start .args .book .now) (start .args .count) in
     let words = length (start .args .words .now) in
     let L = limitsOf (start .args .l) in
-    (add-held _ words _ L B (checked .accept-add .ensures .0) (counted .capacity .ensures) (passed .if1 .left) (scanned .find .ensures) (c .if2 .taken), refl)
+    (add-held _ _ words _ L B (checked .accept-add .ensures .0) (counted .capacity .ensures) (passed .if1 .left) (scanned .find .ensures) (c .if2 .taken), refl)
 
 same-length-5 : tie.Need-same-length-5
 same-length-5 c = search needs
@@ -76,7 +76,7 @@ returns-3 c =
     let B = bookOf (start .args .book .now) (start .args .count) in
     let words = length (start .args .words .now) in
     let L = limitsOf (start .args .l) in
-    (add-full _ words _ L B (checked .accept-add .ensures .0) (counted .capacity .ensures) (passed .if1 .left) (scanned .find .ensures) (c .before .if2 .left) (c .if3 .taken), refl)
+    (add-full _ _ words _ L B (checked .accept-add .ensures .0) (counted .capacity .ensures) (passed .if1 .left) (scanned .find .ensures) (c .before .if2 .left) (c .if3 .taken), refl)
 
 search-and-store-requires : tie.Need-search-and-store-requires
 search-and-store-requires c κs =
@@ -90,7 +90,7 @@ search-and-store-requires c κs =
     let words = length (start .args .words .now) in
     let L = limitsOf (start .args .l) in
     let e = checked .accept-add .ensures in
-    (add-accepted _ words _ L B (e .0) (counted .capacity .ensures) (passed .if1 .left) (e .1 (passed .if1 .left)), omega (arith, spacious .if3 .left))
+    (add-accepted _ _ words _ L B (e .0) (counted .capacity .ensures) (passed .if1 .left) (e .1 (passed .if1 .left)), omega (arith, spacious .if3 .left))
 
 same-length-7 : tie.Need-same-length-7
 same-length-7 c = search needs
@@ -110,7 +110,7 @@ returns-4 c =
     let B = bookOf (start .args .book .now) (start .args .count) in
     let words = length (start .args .words .now) in
     let L = limitsOf (start .args .l) in (
-      add-searched _ words _ L B (checked .accept-add .ensures .0) (counted .capacity .ensures) (passed .if1 .left) (scanned .find .ensures) (spacious .before .if2 .left) (spacious .if3 .left)
+      add-searched _ _ words _ L B (checked .accept-add .ensures .0) (counted .capacity .ensures) (passed .if1 .left) (scanned .find .ensures) (spacious .before .if2 .left) (spacious .if3 .left)
           (searched .search-and-store .ensures .0),
       searched .search-and-store .ensures .1,
     )

@@ -10,11 +10,8 @@ load-requires c κs = search needs
 refuses-requires : tie.Need-refuses-requires
 refuses-requires c κs = search needs
 
-broken-requires : tie.Need-broken-requires
-broken-requires c κs = search needs
-
-refuses-requires-2 : tie.Need-refuses-requires-2
-refuses-requires-2 c κs = search needs
+check-book-requires : tie.Need-check-book-requires
+check-book-requires c κs = search needs
 
 slice-aggregate-first : tie.Need-slice-aggregate-first
 slice-aggregate-first c = search needs
@@ -25,9 +22,8 @@ first-requires c κs = search needs
 returns : tie.Need-returns
 returns c =
     let late = c .before .before in
-    let broken = late .before in
-    let rule-most = broken .before in
-    lookup-code _ _ _ (rule-most .before .load .ensures .0) (rule-most .refuses .ensures) (broken .broken .ensures) (late .refuses2 .ensures) (c .first .ensures)
+    let rule-most = late .before in
+    lookup-code _ _ _ (rule-most .before .load .ensures .0) (rule-most .refuses .ensures) (late .check-book .ensures) (c .first .ensures)
 
 pub check-lookup-spec : {M : Type 1} → statement M
-check-lookup-spec = tie.close (tie.spec load-requires refuses-requires broken-requires refuses-requires-2 slice-aggregate-first first-requires returns)
+check-lookup-spec = tie.close (tie.spec load-requires refuses-requires check-book-requires slice-aggregate-first first-requires returns)
