@@ -4,7 +4,7 @@
 use mathlib.Core.Path.{_≡_}
 use mathlib.Core.Bool.{Bool, true, false, cond, not, _||_}
 use mathlib.Core.List.{List, [], _∷_}
-use Prim.Native.Nat.{ℕ, zero, suc, _/_, _%_}
+use Prim.Native.Nat.{ℕ, zero, suc, _*_, _/_, _%_}
 use lib.Dec.{eqb, leb, ltb}
 use lib.ListN.{length}
 use Rattle.rules.specs.Record.{refusal}
@@ -98,7 +98,7 @@ unfoldable pub publishRefusal : Caller → (bytes : List ℕ) (rule : ℕ) → B
 publishRefusal who bytes rule B = firstRefusal (refuses 19 (isTrainer who) ∷ lookupRefusal bytes rule B ∷ [])
 
 abbrev pub afterPlace : Book → (i : ℕ) → BookOutcome
-afterPlace B i = cond (ltb i (B .count)) (unsearched (bookOf (marking i (B .bytes)) (B .count)) 1) (unsearched B 0)
+afterPlace B i = cond (ltb i (B .count)) (unsearched (bookOf (marking (i * 22) (B .bytes)) (B .count)) 1) (unsearched B 0)
 
 unfoldable pub publishCall : Caller → (bytes : List ℕ) (rule : ℕ) → Book → BookOutcome
 publishCall who bytes rule B = answerUnless (publishRefusal who bytes rule B) (refused B) (afterPlace B (place (holdsPair bytes rule) (used B)))

@@ -18,7 +18,7 @@ use Rattle.book.specs.Lists.{BookCall, outcomeOf, afterCalls, emptyBook}
 
 -- With B the book that the calls leave, from any buffer with count 0 on:
 pub record BookStatement (buffer : List ℕ) (calls : List BookCall) : Type 0 where
-  -- a verdict that a lookup finds, whoever's, is the position's value under that rule;
+  -- a verdict that a lookup finds, an arbiter's or a trainer's, is the position's value under that rule;
   pub found : (who : Caller) (bytes : List ℕ) (rule : ℕ) → let B = afterCalls calls (emptyBook buffer) in
       (lookupCall who bytes rule B .answer ≡ 0 → ⊥) → lookupCall who bytes rule B .answer ≡ valueNumber rule bytes
   -- so is a verdict that an add hands out, held or searched for;
@@ -36,7 +36,7 @@ oneWritten B bytes rule v = bookOf (take (B .count * 22) (B .bytes) ++ (bytes ++
 
 -- What is promised of an add to any book B, whatever it holds: with a the outcome,
 pub record AddStatement (who : Caller) (bytes : List ℕ) (words rule : ℕ) (L : Limits) (B : Book) : Type 0 where
-  -- a pair that is held is answered with its verdict, without a search;
+  -- if it is not refused and the pair is held, it is answered with its verdict, without a search;
   pub held : addRefusal who bytes (nodes words) rule L B ≡ 0 → (find Arbiter bytes rule (used B) ≡ 0 → ⊥) → addCall who bytes words rule L B ≡ unsearched B (find Arbiter bytes rule (used B))
   -- an add that searches has the verdict that search has with the same record, pool, rule and settings;
   pub as-search : let a = addCall who bytes words rule L B in a .searched ≡ true → (r : Result) → searchCall bytes words rule L ≡ Answered r → a .answer ≡ verdictNumber (r .verdict)

@@ -1,6 +1,6 @@
--- The calls by the check that decides, as the code goes through them. Rests on Book, Answers and Passing.
+-- The calls by the check that decides, as the code goes through them. Rests on Book and Passing.
 use mathlib.Core.Path.{_≡_, refl, sym, subst, _∙_}
-use mathlib.Core.Bool.{Bool, true}
+use mathlib.Core.Bool.{true}
 use mathlib.Core.List.{List, [], _∷_}
 use Prim.Native.Nat.{ℕ, zero, suc, _+_, _*_, _/_, _%_, _≤_, _<_}
 use native.Mathlib.Omega.{arith}
@@ -126,14 +126,14 @@ module _ (who : Caller) (bytes : List ℕ) (rule : ℕ) (B : Book) where
       pub publish-scans : ToFind bytes B
       publish-scans = let p = publish-passed who bytes rule B (sym e ∙ z) in to-find bytes B (p .loaded) (p .book-fits)
 
-      module _ {i : ℕ} (f : i ≡ place (holdsPair bytes rule) (used B)) where
-        pub publish-missing : B .count ≤ i → unsearched B 0 ≡ publishCall who bytes rule B
+      module _ {at : ℕ} (f : at ≡ place (holdsPair bytes rule) (used B) * 22) where
+        pub publish-missing : B .count * 22 ≤ at → unsearched B 0 ≡ publishCall who bytes rule B
         unfolding publishCall
-        publish-missing l = rw (← e, z, ← f, le-ltb i (B .count) l)
+        publish-missing l = rw (← e, z, le-ltb (place (holdsPair bytes rule) (used B)) (B .count) (omega arith))
 
-        pub publish-marks : i < B .count → {after : List ℕ} → after ≡ marking i (B .bytes) → unsearched (bookOf after (B .count)) 1 ≡ publishCall who bytes rule B
+        pub publish-marks : at < B .count * 22 → {after : List ℕ} → after ≡ marking at (B .bytes) → unsearched (bookOf after (B .count)) 1 ≡ publishCall who bytes rule B
         unfolding publishCall
-        publish-marks l w = rw (← e, z, ← f, lt-ltb i (B .count) l, w)
+        publish-marks l w = rw (← e, z, lt-ltb (place (holdsPair bytes rule) (used B)) (B .count) (omega arith), w, f)
 
 -- an outcome whose numbers and book are known is the outcome; and the pool after it
 module _ {x o : BookOutcome} (e : x ≡ o) where

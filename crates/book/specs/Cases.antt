@@ -23,7 +23,7 @@ blank n = replicate n 0xA5
 abbrev pub entry : (bytes : List ℕ) (last : ℕ) → List ℕ
 entry bytes last = bytes ++ (last ∷ [])
 
--- What a lookup of D under rule 1 finds in a buffer with a count.
+-- What an arbiter's lookup of D under rule 1 finds in a buffer with a count.
 abbrev pub Finds : (buffer : List ℕ) (count verdict : ℕ) → Type 0
 Finds buffer count v = lookupCall Arbiter D 1 (bookOf buffer count) ≡ unsearched (bookOf buffer count) v
 
@@ -69,7 +69,7 @@ pub record BookCases : Type 0 where
   -- entries that contradict each other: the first counts
   pub first-true : Finds (entry D 0x50 ++ entry D 0x60) 2 1
   pub first-false : Finds (entry D 0x60 ++ entry D 0x50) 2 2
-  -- verdict bits 0 and 3 are no verdict, and the next entry of the pair counts; the four low bits are not looked at
+  -- verdict bits 0 and 3 are no verdict, and the next entry of the pair counts; for an arbiter the four low bits make no difference
   pub bits-0 : Finds (entry D 0x40) 1 0
   pub after-bits-0 : Finds (entry D 0x40 ++ entry D 0x60) 2 2
   pub bits-3 : Finds (entry D 0x70) 1 0

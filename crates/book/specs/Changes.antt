@@ -1,10 +1,10 @@
--- What a call makes of the used entries: nothing; or one more, of a pair that was not held, with its value; or a mark in one. That a refused call changes nothing;
--- and the promises of an add to any book. Rests on Lists, BookStatement, Passing and the machine's theorem.
+-- What a call does to the used entries: it leaves them, or stores one more, of a pair that was not held, with its value, or marks one. That a refused call changes
+-- nothing; and the promises of an add to any book. Rests on Lists, BookStatement, Passing and the machine's theorem.
 use mathlib.Core.Path.{_≡_, refl, sym, ap, _∙_}
 use mathlib.Core.Bool.{Bool, true, false, cond, true≢false, false≢true}
 use mathlib.Core.List.{List}
 use mathlib.Core.Logic.{_⊎_, inl, inr}
-use Prim.Native.Nat.{ℕ, zero, suc, _≤_, _<_}
+use Prim.Native.Nat.{ℕ, zero, suc, _*_, _≤_, _<_}
 use native.Mathlib.Omega.{arith}
 use borrow.Author.Tests.{leb-false, ltb-true, ltb-false}
 use lib.Dec.{leb, ltb}
@@ -72,20 +72,20 @@ lookup-ways P who bytes rule B turned looked = by-number P (lookupRefusal bytes 
 pub publish-ways : (P : BookOutcome → Type 0) (who : Caller) (bytes : List ℕ) (rule : ℕ) (B : Book) → let i = place (holdsPair bytes rule) (used B) in
     ((n : ℕ) → P (refused B (suc n)))
     → (publishRefusal who bytes rule B ≡ 0 → B .count ≤ i → P (unsearched B 0))
-    → (publishRefusal who bytes rule B ≡ 0 → i < B .count → P (unsearched (bookOf (marking i (B .bytes)) (B .count)) 1))
+    → (publishRefusal who bytes rule B ≡ 0 → i < B .count → P (unsearched (bookOf (marking (i * 22) (B .bytes)) (B .count)) 1))
     → P (publishCall who bytes rule B)
 unfolding publishCall
 publish-ways P who bytes rule B turned missing marks =
     by-number P (publishRefusal who bytes rule B) (refused B) _ (λ n e. turned n) (λ h. go h (ltb (place (holdsPair bytes rule) (used B)) (B .count)) refl)
   where
     go : publishRefusal who bytes rule B ≡ 0 → let i = place (holdsPair bytes rule) (used B) in (b : Bool) → ltb i (B .count) ≡ b
-        → P (cond b (unsearched (bookOf (marking i (B .bytes)) (B .count)) 1) (unsearched B 0))
+        → P (cond b (unsearched (bookOf (marking (i * 22) (B .bytes)) (B .count)) 1) (unsearched B 0))
     go e true t = marks e (ltb-true _ _ t)
     go e false t = missing e (ltb-false _ _ t)
 
 -- the used entries with the mark
 pub used-marked : (bytes : List ℕ) (rule : ℕ) (B : Book) → Fits B → let i = place (holdsPair bytes rule) (used B) in i < B .count
-    → used (bookOf (marking i (B .bytes)) (B .count)) ≡ markFirst (holdsPair bytes rule) (used B)
+    → used (bookOf (marking (i * 22) (B .bytes)) (B .count)) ≡ markFirst (holdsPair bytes rule) (used B)
 used-marked bytes rule B f h = entries-marking (holdsPair bytes rule) (B .count) (B .bytes) (omega (arith, f .within)) h
 
 -- what a call may make of the used entries

@@ -1,5 +1,5 @@
 -- The book's statement, of every list of calls from an empty book: each call keeps every stored verdict the value and keeps what is found, so lists of calls do.
--- Rests on BookStatement and Changes.
+-- Rests on BookStatement, Passing, Changes and the entries' laws.
 use mathlib.Core.Path.{_≡_, refl, sym, ap, _∙_, subst}
 use mathlib.Core.Bool.{Bool, true, false, cond}
 use mathlib.Core.List.{List, [], _∷_}
@@ -16,10 +16,10 @@ use Rattle.entries.specs.Marks.{mark-rule, mark-verdict, all-marked, find-marke
 use Rattle.entries.specs.declared.Caller.{Caller}
 use Rattle.entries.specs.declared.Caller.the-variants.{Arbiter}
 use Rattle.entries.specs.Finding.{IsVerdict, verdict-few, new-rule, new-verdict, find-of, find-still, find-stored}
-use Rattle.book.specs.Book.{Book, BookOutcome, used, unsearched, searchedVerdict, afterSearch, lookupCall, addCall}
+use Rattle.book.specs.Book.{Book, BookOutcome, used, unsearched, searchedVerdict, afterSearch, addCall}
 use Rattle.book.specs.Lists.{BookCall, Lookup, Add, Publish, outcomeOf, afterCalls, emptyBook}
 use Rattle.book.specs.BookStatement.{BookStatement}
-use Rattle.book.specs.Passing.{Fits, LookupPassed, passes-lookup, used-stored, fits-stored}
+use Rattle.book.specs.Passing.{Fits, LookupPassed, looked-up, used-stored, fits-stored}
 use Rattle.book.specs.Changes.{search-value, AddSearches, add-ways, lookup-ways, Change, changed, as-it-was}
 
 value-verdict : (bytes : List ℕ) (rule : ℕ) → IsVerdict (valueNumber rule bytes)
@@ -83,11 +83,6 @@ right-after (c ∷ cs) B r = right-after cs (outcomeOf c B .left) (right-still c
 fits-after : (cs : List BookCall) (B : Book) → Fits B → Fits (afterCalls cs B)
 fits-after [] B f = f
 fits-after (c ∷ cs) B f = fits-after cs (outcomeOf c B .left) (changed c B .fits-still f)
-
--- a lookup that passes its checks
-pub looked-up : (who : Caller) (bytes : List ℕ) (rule : ℕ) (B : Book) → LookupPassed bytes rule B → lookupCall who bytes rule B ≡ unsearched B (find who bytes rule (used B))
-unfolding lookupCall
-looked-up who bytes rule B p = rw (passes-lookup bytes rule B p)
 
 -- after an add with a verdict: a lookup of the pair passes its checks and finds the verdict
 record Findable (bytes : List ℕ) (rule : ℕ) (o : BookOutcome) : Type 0 where

@@ -16,10 +16,10 @@ use Rattle.calls.specs.Calls.{lastRule}
 use Rattle.calls.specs.Refusing.{passes-test}
 use Rattle.searches.specs.Searches.{Limits, nodes, searchRefusal}
 use Rattle.searches.specs.Accepting.{Accepts, accepts}
-use Rattle.entries.specs.Entries.{Entry, entries, withEntries, newEntry, storing, withMark, marking}
+use Rattle.entries.specs.Entries.{Entry, entries, withEntries, find, newEntry, storing, withMark, marking}
 use Rattle.entries.specs.declared.Caller.{Caller}
 use Rattle.entries.specs.Buffers.{All, Whole, all-storing, read-back, length-withEntries, length-entries, entries-whole}
-use Rattle.book.specs.Book.{Book, bookOf, size, used, broken, lookupRefusal, addRefusal, storedIn, publishRefusal}
+use Rattle.book.specs.Book.{Book, bookOf, size, used, broken, unsearched, lookupRefusal, lookupCall, addRefusal, storedIn, publishRefusal}
 
 -- check 17 is passed
 pub record Fits (B : Book) : Type 0 where
@@ -34,7 +34,7 @@ fits B h =
 pub fits-unbroken : (B : Book) → Fits B → broken B ≡ false
 fits-unbroken B f = rw (f .whole, le-ltb (size B) (B .count) (f .within))
 
--- a lookup that passes, and an add
+-- a lookup that passes, an add and a publish
 pub record LookupPassed (bytes : List ℕ) (rule : ℕ) (B : Book) : Type 0 where
   pub loaded : refusal bytes ≡ 0
   pub rule-most : rule ≤ lastRule
@@ -51,6 +51,11 @@ module _ (bytes : List ℕ) (rule : ℕ) (B : Book) where
   pub passes-lookup : LookupPassed bytes rule B → lookupRefusal bytes rule B ≡ 0
   unfolding lookupRefusal firstRefusal
   passes-lookup p = rw (p .loaded, le-ltb lastRule rule (p .rule-most), fits-unbroken B (p .book-fits))
+
+-- a lookup that passes its checks
+pub looked-up : (who : Caller) (bytes : List ℕ) (rule : ℕ) (B : Book) → LookupPassed bytes rule B → lookupCall who bytes rule B ≡ unsearched B (find who bytes rule (used B))
+unfolding lookupCall
+looked-up who bytes rule B p = rw (passes-lookup bytes rule B p)
 
 pub record AddPassed (bytes : List ℕ) (words rule : ℕ) (L : Limits) (B : Book) : Type 0 where
   pub none : searchRefusal bytes (nodes words) rule L ≡ 0
@@ -91,5 +96,5 @@ module _ (B : Book) (f : Fits B) (bytes : List ℕ) (rule v : ℕ) (w : length b
       record { whole = rw e (f .whole); within = rw e (omega arith) }
 
 -- a mark set in a book that fits: it fits still
-pub fits-marked : (B : Book) → Fits B → (i : ℕ) → Fits (bookOf (marking i (B .bytes)) (B .count))
+pub fits-marked : (B : Book) → Fits B → (i : ℕ) → Fits (bookOf (marking (i * 22) (B .bytes)) (B .count))
 fits-marked B f i = let e = length-set (B .bytes) (i * 22 + 21) (withMark (getD (B .bytes) (i * 22 + 21) 0)) in record { whole = rw e (f .whole); within = rw e (f .within) }

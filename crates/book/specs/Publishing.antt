@@ -1,4 +1,4 @@
--- The promises of trainers and of publishing. Rests on TrainerStatement, Changes and the entries' laws.
+-- The promises of trainers and of publishing. Rests on TrainerStatement, Passing, Changes and the entries' laws.
 use mathlib.Core.Path.{_≡_, refl, sym, ap, _∙_}
 use mathlib.Core.Bool.{Bool, true, false}
 use mathlib.Core.List.{List, [], _∷_}
@@ -7,27 +7,28 @@ use Prim.Native.Nat.{ℕ, zero, suc, _+_, _*_, _%_, _≤_, _<_}
 use native.Mathlib.Omega.{arith}
 use borrow.Author.Tests.{eqb-true, eqb-false, lt-ltb, le-ltb}
 use lib.Dec.{eqb, ltb}
-use lib.ListN.{length, getD, set}
+use lib.ListN.{getD, set}
 use lib.Seq.{getD-set-same, set-getD, set-set}
 use Rattle.rules.specs.Checks.{loads}
 use Rattle.rules.specs.Record.{refusal}
 use Rattle.rules.specs.Refusals.{refuses, firstRefusal}
+use Rattle.rules.specs.RefusalLaws.{rest-refuses, last-refuses}
 use Rattle.calls.specs.Calls.{lastRule, answerUnless}
 use Rattle.searches.specs.Searches.{Limits}
-use Rattle.entries.specs.Entries.{isTrainer, holdsPair, find, place, newEntry, withMark, marking}
+use Rattle.entries.specs.Entries.{holdsPair, find, place, withMark, marking}
 use Rattle.entries.specs.Buffers.{length-entries}
 use Rattle.entries.specs.Published.{publishedPairs}
 use Rattle.entries.specs.Placing.{markFirst}
 use Rattle.entries.specs.Marks.{marked-holds, place-marked, held-place, missing-place, find-marked, published-found, others-found}
-use Rattle.entries.specs.Trainers.{trainer-alike, unpublished}
+use Rattle.entries.specs.Trainers.{trainer-finds, trainer-alike, unpublished}
 use Rattle.entries.specs.declared.Caller.{Caller}
 use Rattle.entries.specs.declared.Caller.the-variants.{Arbiter, Trainer}
 use Rattle.book.specs.Book.{Book, bookOf, BookOutcome, used, broken, refused, unsearched, lookupRefusal, lookupCall, addRefusal, searchedVerdict, storedIn, addCall}
 use Rattle.book.specs.Book.{publishRefusal, publishCall}
+use Rattle.book.specs.Lists.{Publish}
 use Rattle.book.specs.TrainerStatement.{leaving, TrainerStatement, OneBit, PublishStatement}
-use Rattle.book.specs.Passing.{Fits, fits-unbroken, LookupPassed, publish-passed, used-stored, fits-stored, fits-marked}
-use Rattle.book.specs.Changes.{AddSearches, add-ways, publish-ways, used-marked}
-use Rattle.book.specs.Kept.{looked-up}
+use Rattle.book.specs.Passing.{Fits, fits-unbroken, LookupPassed, lookup-passed, looked-up, publish-passed, used-stored, fits-stored, fits-marked}
+use Rattle.book.specs.Changes.{AddSearches, add-ways, publish-ways, used-marked, as-it-was}
 
 -- two books that check 17 takes alike
 module _ (B C : Book) (b : broken B ≡ broken C) where
@@ -56,11 +57,17 @@ trainer-publishes : (bytes : List ℕ) (rule : ℕ) (B : Book) → publishCall T
 unfolding publishCall publishRefusal firstRefusal
 trainer-publishes bytes rule B = refl
 
+-- an arbiter's publish has a lookup's checks
+arbiter-checks : (bytes : List ℕ) (rule : ℕ) (B : Book) → publishRefusal Arbiter bytes rule B ≡ lookupRefusal bytes rule B
+unfolding publishRefusal
+arbiter-checks bytes rule B = rest-refuses 0 (lookupRefusal bytes rule B ∷ []) refl ∙ last-refuses (lookupRefusal bytes rule B)
+
 -- TRAINERS, with any two books
 pub trainer-statement : (B C : Book) → TrainerStatement B C
 trainer-statement B C = record {
   adds-nothing = λ bytes words rule L. trainer-adds bytes words rule L B;
   publishes-nothing = λ bytes rule. trainer-publishes bytes rule B;
+  reads-published = λ bytes rule e. looked-up Trainer bytes rule B (lookup-passed bytes rule B e) ∙ ap (unsearched B) (trainer-finds bytes rule (used B));
   alike = λ b c h bytes rule. lookup-alike B C (b ∙ sym c) Trainer bytes rule (trainer-alike (used B) (used C) h bytes rule);
   add-unseen = λ who bytes words rule L.
       add-ways (λ o. (asked : List ℕ) (under : ℕ) → lookupCall Trainer asked under (o .left) ≡ leaving (o .left) (lookupCall Trainer asked under B)) who bytes words rule L B
@@ -97,25 +104,25 @@ mark-again b = omega arith
 -- a pair that is held, and one that is not
 module _ (who : Caller) (bytes : List ℕ) (rule : ℕ) (B : Book) (e : publishRefusal who bytes rule B ≡ 0) where
   publish-held : (find Arbiter bytes rule (used B) ≡ 0 → ⊥)
-      → let i = place (holdsPair bytes rule) (used B) in (i < B .count) × (publishCall who bytes rule B ≡ unsearched (bookOf (marking i (B .bytes)) (B .count)) 1)
+      → let i = place (holdsPair bytes rule) (used B) in (i < B .count) × (publishCall who bytes rule B ≡ unsearched (bookOf (marking (i * 22) (B .bytes)) (B .count)) 1)
   unfolding publishCall
   publish-held n =
       let i = place (holdsPair bytes rule) (used B) in
       let h : i < B .count = omega (arith, held-place bytes rule (used B) n, length-entries (B .count) (B .bytes)) in
       (h, rw (e, lt-ltb i (B .count) h))
 
-  publish-missing : find Arbiter bytes rule (used B) ≡ 0 → publishCall who bytes rule B ≡ unsearched B 0
+  publish-not-held : find Arbiter bytes rule (used B) ≡ 0 → publishCall who bytes rule B ≡ unsearched B 0
   unfolding publishCall
-  publish-missing z =
+  publish-not-held z =
       let i = place (holdsPair bytes rule) (used B) in
       let h : B .count ≤ i = omega (arith, missing-place bytes rule (used B) z, length-entries (B .count) (B .bytes)) in
       rw (e, le-ltb i (B .count) h)
 
 -- the book with a mark set: one bit was changed, or none
-marked-bit : (B : Book) (i : ℕ) → Fits B → i < B .count → let C = bookOf (marking i (B .bytes)) (B .count) in (C ≡ B) ⊎ OneBit B C
+marked-bit : (B : Book) (i : ℕ) → Fits B → i < B .count → let C = bookOf (marking (i * 22) (B .bytes)) (B .count) in (C ≡ B) ⊎ OneBit B C
 marked-bit B i f h = go (eqb (getD (B .bytes) (i * 22 + 21) 0 % 2) 0) refl
   where
-    go : (t : Bool) → eqb (getD (B .bytes) (i * 22 + 21) 0 % 2) 0 ≡ t → let C = bookOf (marking i (B .bytes)) (B .count) in (C ≡ B) ⊎ OneBit B C
+    go : (t : Bool) → eqb (getD (B .bytes) (i * 22 + 21) 0 % 2) 0 ≡ t → let C = bookOf (marking (i * 22) (B .bytes)) (B .count) in (C ≡ B) ⊎ OneBit B C
     go true t =
         let e = eqb-true _ 0 t in
         inr (record { at = i * 22 + 21; within = omega (arith, f .within); was-0 = e; is-1 = ap (λ x. bookOf (set (B .bytes) (i * 22 + 21) x) (B .count)) (mark-set _ e) })
@@ -127,7 +134,7 @@ module _ (who : Caller) (bytes : List ℕ) (rule : ℕ) (B : Book) (e : publishR
   fitting = publish-passed who bytes rule B e .book-fits
 
   marked-book : Book
-  marked-book = bookOf (marking (place (holdsPair bytes rule) (used B)) (B .bytes)) (B .count)
+  marked-book = bookOf (marking (place (holdsPair bytes rule) (used B) * 22) (B .bytes)) (B .count)
 
   marked-fits : Fits marked-book
   unfolding marked-book
@@ -149,8 +156,8 @@ module _ (who : Caller) (bytes : List ℕ) (rule : ℕ) (B : Book) (e : publishR
       let p : place (holdsPair bytes rule) (used marked-book) ≡ i =
       ap (place (holdsPair bytes rule)) marked-used ∙ place-marked (holdsPair bytes rule) (holdsPair bytes rule) (λ x k. marked-holds bytes rule x) (used B) in
       let x = withMark (getD (B .bytes) at 0) in
-      let w : marking i (marking i (B .bytes)) ≡ marking i (B .bytes) =
-      ap (λ y. set (marking i (B .bytes)) at (withMark y)) (getD-set-same (B .bytes) at x 0 (omega (arith, fitting .within))) ∙ set-set (B .bytes) at x (withMark x)
+      let w : marking (i * 22) (marking (i * 22) (B .bytes)) ≡ marking (i * 22) (B .bytes) =
+      ap (λ y. set (marking (i * 22) (B .bytes)) at (withMark y)) (getD-set-same (B .bytes) at x 0 (omega (arith, fitting .within))) ∙ set-set (B .bytes) at x (withMark x)
       ∙ ap (set (B .bytes) at) (mark-again (getD (B .bytes) at 0)) in
       rw (marked-checks, p, lt-ltb i (B .count) h, w)
 
@@ -171,7 +178,9 @@ unfolding marked-book
 publish-statement who bytes rule B = record {
   held = publish-held who bytes rule B;
   one-bit = ways (λ o. (o .left ≡ B) ⊎ OneBit B (o .left)) (λ n. inl refl) (inl refl) (λ e h. marked-bit B (place (holdsPair bytes rule) (used B)) (fitting who bytes rule B e h) h);
-  not-held = publish-missing who bytes rule B;
+  not-held = publish-not-held who bytes rule B;
+  checks = arbiter-checks bytes rule B;
+  refused-as-it-was = as-it-was (Publish who bytes rule) B;
   again = ways (λ o. o .answer ≡ 1 → publishCall who bytes rule (o .left) ≡ unsearched (o .left) 1) (λ n z. absurd (omega arith)) (λ z. absurd (omega arith))
       (λ e h z. marked-again who bytes rule B e h);
   seen = ways (λ o. o .answer ≡ 1 → lookupCall Trainer bytes rule (o .left) ≡ unsearched (o .left) (find Arbiter bytes rule (used B))) (λ n z. absurd (omega arith)) (λ z. absurd (omega arith))
@@ -188,6 +197,6 @@ publish-statement who bytes rule B = record {
     same asker asked under = lookup-alike B B refl asker asked under refl
 
     ways : (P : BookOutcome → Type 0) → ((n : ℕ) → P (refused B (suc n))) → P (unsearched B 0)
-        → (publishRefusal who bytes rule B ≡ 0 → place (holdsPair bytes rule) (used B) < B .count → P (unsearched (bookOf (marking (place (holdsPair bytes rule) (used B)) (B .bytes)) (B .count)) 1))
+        → (let i = place (holdsPair bytes rule) (used B) in publishRefusal who bytes rule B ≡ 0 → i < B .count → P (unsearched (bookOf (marking (i * 22) (B .bytes)) (B .count)) 1))
         → P (publishCall who bytes rule B)
     ways P turned missing marks = publish-ways P who bytes rule B turned (λ e l. missing) marks

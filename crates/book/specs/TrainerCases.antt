@@ -2,11 +2,10 @@
 use mathlib.Core.Path.{_≡_, refl, ap}
 use mathlib.Core.List.{List, [], _∷_, _++_}
 use Prim.Native.Nat.{ℕ}
-use Rattle.rules.specs.Rules.{hasLine, state, board, boardStates, gameState}
+use Rattle.rules.specs.Rules.{hasLine, state, board, boardStates}
 use Rattle.rules.specs.Record.{bitAt, positionOf, positionRefusal, refusal}
 use Rattle.rules.specs.Refusals.{firstRefusal}
 use Rattle.plain.specs.Cases.{W, D}
-use Rattle.searches.specs.Searches.{searchRefusal}
 use Rattle.searches.specs.StepThree.{pool}
 use Rattle.entries.specs.Entries.{holdsRule, holdsPair, find}
 use Rattle.entries.specs.Published.{publishedPairs}
@@ -24,12 +23,12 @@ FindsFor who buffer count v = lookupCall who D 1 (bookOf buffer count) ≡ unsea
 abbrev pub Leaves : (buffer : List ℕ) (count answer : ℕ) (after : List ℕ) → Type 0
 Leaves buffer count a after = publishCall Arbiter D 1 (bookOf buffer count) ≡ unsearched (bookOf after count) a
 
--- D published as False, in two books: after W, unpublished, and after D as True and W as False, both unpublished.
+-- D published as False, in two books: after W, unpublished; and, with other low bits, after D as True, unpublished, and W, published with verdict bits 3.
 abbrev pub short : Book
 short = bookOf (entry W 0x50 ++ entry D 0x61) 2
 
 abbrev pub long : Book
-long = bookOf (entry D 0x50 ++ (entry W 0x60 ++ entry D 0x61)) 3
+long = bookOf (entry D 0x50 ++ (entry W 0x71 ++ entry D 0x6F)) 3
 
 -- Each field is a case.
 pub record TrainerCases : Type 0 where
@@ -41,7 +40,7 @@ pub record TrainerCases : Type 0 where
   pub under-rule-2 : lookupCall Trainer D 2 (bookOf (entry D 0x61) 1) ≡ unsearched (bookOf (entry D 0x61) 1) 0
   -- published twice
   pub twice : Leaves (entry D 0x61 ++ blank 22) 1 1 (entry D 0x61 ++ blank 22)
-  -- the same published pairs and verdicts, and other unpublished ones between
+  -- the same published pairs and verdicts, and otherwise other entries
   pub same-published : publishedPairs (used short) ≡ publishedPairs (used long)
   pub D-in-short : lookupCall Trainer D 1 short ≡ unsearched short 2
   pub D-in-long : lookupCall Trainer D 1 long ≡ unsearched long 2
@@ -86,7 +85,7 @@ pub record TrainerCases : Type 0 where
   pub list : afterCalls (Add Arbiter D (pool 3276) 1 judge ∷ Publish Arbiter D 1 ∷ Publish Trainer D 1 ∷ Lookup Trainer D 1 ∷ []) none ≡ bookOf (entry D 0x61 ++ blank 22) 1
 
 pub trainer-cases : TrainerCases
-unfolding hasLine state board boardStates gameState bitAt positionOf positionRefusal refusal firstRefusal searchRefusal holdsRule holdsPair find lookupRefusal lookupCall addRefusal addCall publishRefusal publishCall
+unfolding hasLine state board boardStates bitAt positionOf positionRefusal refusal firstRefusal holdsRule holdsPair find lookupRefusal lookupCall addRefusal addCall publishRefusal publishCall
 trainer-cases = record {
   unpublished = refl;
   published = refl;

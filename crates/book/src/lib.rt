@@ -1,4 +1,4 @@
-// The calls of a book of verdicts: lookup; add, which searches and stores; and publish, which opens an entry to trainers. A book is a lent buffer of entries and the count of the used ones.
+// The calls of a book of verdicts: lookup; add, which searches and stores; and publish, which marks an entry for trainers. A book is a lent buffer of entries and the count of the used ones.
 
 ghost use mathlib.Core.Path.{_≡_};
 ghost use Prim.Native.Nat.{_+_, _*_, _≤_};
@@ -103,8 +103,8 @@ fn accept_add(
     let caller = check_caller(who);
     let accepted = searches::accept(bytes, nodes, rule, l);
     let game = accepted.game;
-    let size = check_book(book, count);
-    let checks = [caller, accepted.code, size];
+    let sized = check_book(book, count);
+    let checks = [caller, accepted.code, sized];
     Loaded {
         code: refusals::first(&checks),
         game,
@@ -189,10 +189,10 @@ pub fn publish(
     if code != 0 {
         return PublishOutcome::Refused(code);
     }
-    let i = entries::first(Caller::Arbiter, book, count, bytes, rule);
-    if i >= count {
+    let at = entries::first(Caller::Arbiter, book, count, bytes, rule);
+    if at >= count * ENTRY {
         return PublishOutcome::NotHeld;
     }
-    entries::mark(book, i);
+    entries::mark(book, at);
     PublishOutcome::Published
 }

@@ -61,7 +61,7 @@ sameBytes [] (y ∷ ys) = false
 sameBytes (x ∷ xs) [] = false
 sameBytes (x ∷ xs) (y ∷ ys) = eqb x y && sameBytes xs ys
 
--- A last byte has a verdict if its bits are 1 or 2; it holds a rule if it has the rule and a verdict. An entry holds a pair if it has the record's bytes and
+-- A last byte has a verdict if its verdict bits are 1 or 2; it holds a rule if it has the rule and a verdict. An entry holds a pair if it has the record's bytes and
 -- its last byte holds the rule.
 abbrev pub hasVerdict : (last : ℕ) → Bool
 hasVerdict last = eqb (verdictBits last) 1 || eqb (verdictBits last) 2
@@ -97,9 +97,9 @@ newEntry bytes rule verdict = record { bytes = bytes; last = rule * 64 + verdict
 abbrev pub storing : Entry → List Entry → List Entry
 storing e es = es ++ (e ∷ [])
 
--- A last byte with the mark, its last bit; a buffer with the mark set in the entry after the first i.
+-- A last byte with the mark, its last bit; a buffer with the mark set in the entry that begins at a place.
 abbrev pub withMark : (last : ℕ) → ℕ
 withMark last = last / 2 * 2 + 1
 
-abbrev pub marking : (i : ℕ) → (buffer : List ℕ) → List ℕ
-marking i buffer = set buffer (i * 22 + 21) (withMark (getD buffer (i * 22 + 21) 0))
+abbrev pub marking : (at : ℕ) → (buffer : List ℕ) → List ℕ
+marking at buffer = set buffer (at + 21) (withMark (getD buffer (at + 21) 0))

@@ -61,7 +61,7 @@ pub pair-verdict : (bytes : List ℕ) (rule : ℕ) (e : Entry) → holdsPair byt
 pair-verdict bytes rule e h = verdict-some (verdictBits (e .last)) (entry-of-pair bytes rule e h .verdict)
 
 -- an entry that answers a caller holds the pair
-pub answers-holds : (who : Caller) (bytes : List ℕ) (rule : ℕ) (e : Entry) → answers who bytes rule e ≡ true → holdsPair bytes rule e ≡ true
+answers-holds : (who : Caller) (bytes : List ℕ) (rule : ℕ) (e : Entry) → answers who bytes rule e ≡ true → holdsPair bytes rule e ≡ true
 answers-holds who bytes rule e h = both-true (mayRead who (e .last)) (holdsPair bytes rule e) h .1
 
 -- the first verdict, for any test

@@ -1,4 +1,5 @@
--- What setting a mark changes: nothing for an arbiter; every caller finds the pair then, and every other pair as before. Rests on Finding and Placing.
+-- What setting a mark changes: nothing for an arbiter; every caller finds the pair then, and every other pair as before. Rests on Entries, Buffers,
+-- Finding and Placing.
 use mathlib.Core.Path.{_≡_, refl, sym, ap, _∙_}
 use mathlib.Core.Bool.{Bool, true, false, cond, and-false}
 use mathlib.Core.List.{List, [], _∷_}
@@ -10,7 +11,7 @@ use lib.ListN.{length}
 use Rattle.entries.specs.Entries.{Entry, ruleBits, verdictBits, mayRead, holdsRule, holdsPair, answers, firstVerdict, find, place, withMark}
 use Rattle.entries.specs.Buffers.{All}
 use Rattle.entries.specs.Finding.{entry-of-pair, pair-verdict}
-use Rattle.entries.specs.Placing.{marked, markFirst, none-picked, some-picked}
+use Rattle.entries.specs.Placing.{marked, markFirst, none-picked, none-found}
 use Rattle.entries.specs.declared.Caller.{Caller}
 use Rattle.entries.specs.declared.Caller.the-variants.{Arbiter, Trainer}
 
@@ -71,7 +72,7 @@ module _ (bytes : List ℕ) (rule : ℕ) where
 
   pub missing-place : (es : List Entry) → find Arbiter bytes rule es ≡ 0 → length es ≤ place (holdsPair bytes rule) es
   unfolding find
-  missing-place es z = some-picked (holdsPair bytes rule) (pair-verdict bytes rule) es z
+  missing-place es z = none-found (holdsPair bytes rule) (pair-verdict bytes rule) es z
 
   -- an arbiter finds what was found
   pub find-marked : (s : Entry → Bool) (es : List Entry) → find Arbiter bytes rule (markFirst s es) ≡ find Arbiter bytes rule es

@@ -19,7 +19,7 @@ markFirst t [] = []
 markFirst t (e ∷ es) = cond (t e) (marked e ∷ es) (e ∷ markFirst t es)
 
 module _ (t : Entry → Bool) where
-  -- none is picked
+  -- if none is picked no verdict is found
   pub none-picked : (es : List Entry) → length es ≤ place t es → firstVerdict t es ≡ 0
   none-picked [] h = refl
   none-picked (e ∷ es) h = go (t e) h (none-picked es)
@@ -28,17 +28,17 @@ module _ (t : Entry → Bool) where
       go true h r = absurd (omega arith)
       go false h r = r (omega arith)
 
-  -- one is, if a verdict is found
-  pub some-picked : ((e : Entry) → t e ≡ true → verdictBits (e .last) ≡ 0 → ⊥) → (es : List Entry) → firstVerdict t es ≡ 0 → length es ≤ place t es
-  some-picked p [] z = omega arith
-  some-picked p (e ∷ es) z = go (t e) refl z (some-picked p es)
+  -- and if none is found none is picked, where every entry that the test picks has one
+  pub none-found : ((e : Entry) → t e ≡ true → verdictBits (e .last) ≡ 0 → ⊥) → (es : List Entry) → firstVerdict t es ≡ 0 → length es ≤ place t es
+  none-found p [] z = omega arith
+  none-found p (e ∷ es) z = go (t e) refl z (none-found p es)
     where
       go : (b : Bool) → t e ≡ b → cond b (verdictBits (e .last)) (firstVerdict t es) ≡ 0 → (firstVerdict t es ≡ 0 → length es ≤ place t es) → suc (length es) ≤ cond b 0 (suc (place t es))
       go true q z r = absurd (p e q z)
       go false q z r = let l = r z in omega (arith, l)
 
   -- its verdict
-  pub first-at : (n : ℕ) (book : List ℕ) → let i = place t (entries n book) in i < n → verdictBits (getD book (i * 22 + 21) 0) ≡ firstVerdict t (entries n book)
+  first-at : (n : ℕ) (book : List ℕ) → let i = place t (entries n book) in i < n → verdictBits (getD book (i * 22 + 21) 0) ≡ firstVerdict t (entries n book)
   first-at zero book h = absurd (omega arith)
   first-at (suc n) book h = go (t (entryOf book)) (place t (entries n (drop 22 book))) h (first-at n (drop 22 book))
     where
@@ -50,13 +50,13 @@ module _ (t : Entry → Bool) where
           ap (λ k. verdictBits (getD book k 0)) e ∙ ap verdictBits (sym (getD-drop 22 book (i * 22 + 21) 0)) ∙ r (omega arith)
 
   -- the entries after its mark was set
-  pub entries-marking : (n : ℕ) (book : List ℕ) → n * 22 ≤ length book → let i = place t (entries n book) in i < n → entries n (marking i book) ≡ markFirst t (entries n book)
+  pub entries-marking : (n : ℕ) (book : List ℕ) → n * 22 ≤ length book → let i = place t (entries n book) in i < n → entries n (marking (i * 22) book) ≡ markFirst t (entries n book)
   entries-marking zero book f h = absurd (omega arith)
   entries-marking (suc n) book f h =
       go (t (entryOf book)) (place t (entries n (drop 22 book))) h (entries-marking n (drop 22 book) (omega (arith, length-drop 22 book)))
     where
-      go : (b : Bool) (i : ℕ) → cond b 0 (suc i) < suc n → (i < n → entries n (marking i (drop 22 book)) ≡ markFirst t (entries n (drop 22 book)))
-          → entries (suc n) (marking (cond b 0 (suc i)) book) ≡ cond b (marked (entryOf book) ∷ entries n (drop 22 book)) (entryOf book ∷ markFirst t (entries n (drop 22 book)))
+      go : (b : Bool) (i : ℕ) → cond b 0 (suc i) < suc n → (i < n → entries n (marking (i * 22) (drop 22 book)) ≡ markFirst t (entries n (drop 22 book)))
+          → entries (suc n) (marking (cond b 0 (suc i) * 22) book) ≡ cond b (marked (entryOf book) ∷ entries n (drop 22 book)) (entryOf book ∷ markFirst t (entries n (drop 22 book)))
       go true i h r =
           let x = withMark (getD book 21 0) in
           rw (take-set-le 21 book 21 x (omega arith), getD-set-same book 21 x 0 (omega arith), drop-set-lt 22 book 21 x (omega arith))
@@ -67,12 +67,12 @@ module _ (t : Entry → Bool) where
           rw (e, take-set-le 21 book (22 + k) x (omega arith), getD-set-other book (22 + k) 21 x 0 (λ q. omega arith), drop-set-add 22 book k x, ← getD-drop 22 book k 0)
           (ap (λ es. entryOf book ∷ es) (r (omega arith)))
 
--- what a caller finds, by the place of the first entry that answers
-module _ (who : Caller) (bytes : List ℕ) (rule n : ℕ) (book : List ℕ) {i : ℕ} (e : i ≡ place (answers who bytes rule) (entries n book)) where
-  pub find-at : i < n → verdictBits (getD book (i * 22 + 21) 0) ≡ find who bytes rule (entries n book)
+-- what a caller finds, by where the first entry that answers begins
+module _ (who : Caller) (bytes : List ℕ) (rule n : ℕ) (book : List ℕ) {at : ℕ} (e : at ≡ place (answers who bytes rule) (entries n book) * 22) where
+  pub find-at : at < n * 22 → verdictBits (getD book (at + 21) 0) ≡ find who bytes rule (entries n book)
   unfolding find
   find-at h = rw e (first-at (answers who bytes rule) n book (omega arith))
 
-  pub find-none : n ≤ i → 0 ≡ find who bytes rule (entries n book)
+  pub find-none : n * 22 ≤ at → 0 ≡ find who bytes rule (entries n book)
   unfolding find
   find-none h = sym (none-picked (answers who bytes rule) (entries n book) (omega (arith, length-entries n book)))

@@ -2,7 +2,8 @@
 use mathlib.Core.Bool.{cond, _&&_}
 use mathlib.Core.List.{List, [], _∷_}
 use Prim.Native.Nat.{ℕ}
-use Rattle.entries.specs.Entries.{Entry, ruleBits, verdictBits, isPublished, hasVerdict}
+use lib.Dec.{eqb}
+use Rattle.entries.specs.Entries.{Entry, ruleBits, verdictBits, isPublished, sameBytes, hasVerdict}
 
 -- What an entry says: a record, a rule and a verdict, without the bits that are never looked at.
 pub record PairVerdict : Type 0 where
@@ -16,3 +17,8 @@ pairVerdict e = record { bytes = e .bytes; rule = ruleBits (e .last); verdict = 
 abbrev pub publishedPairs : List Entry → List PairVerdict
 publishedPairs [] = []
 publishedPairs (e ∷ es) = cond (isPublished (e .last) && hasVerdict (e .last)) (pairVerdict e ∷ publishedPairs es) (publishedPairs es)
+
+-- The verdict of the first of them that is of a pair; 0 if none is.
+abbrev pub verdictAmong : (bytes : List ℕ) (rule : ℕ) → List PairVerdict → ℕ
+verdictAmong bytes rule [] = 0
+verdictAmong bytes rule (p ∷ ps) = cond (sameBytes (p .bytes) bytes && eqb (p .rule) rule) (p .verdict) (verdictAmong bytes rule ps)

@@ -4,7 +4,6 @@ use mathlib.Core.Bool.{Bool, true, false, cond, _&&_, _||_, and-false}
 use mathlib.Core.List.{List}
 use Prim.Native.Nat.{ℕ, zero, suc, _+_, _*_, _-_, _≤_, _<_}
 use native.Mathlib.Omega.{arith}
-use native.Mathlib.Numerals.{add-one}
 use borrow.Author.Tests.{eq-eqb, ne-eqb}
 use lib.Dec.{eqb}
 use lib.ListN.{take, drop, getD}
@@ -61,8 +60,10 @@ module _ (who : Caller) (book bytes : List ℕ) (at rule : ℕ) where
   unfolding holdsPair
   own-record e b h = rw (← e, getD-drop at book 21 0) h
 
--- the first entry that a test picks lies after the first i
-pub record Scanning (test : Entry → Bool) (book : List ℕ) (count i : ℕ) : Type 0 where
+-- the first entry that a test picks lies after the first i, which end at a place
+pub record Scanning (test : Entry → Bool) (book : List ℕ) (count at : ℕ) : Type 0 where
+  pub i : ℕ
+  pub at-is : at ≡ i * 22
   pub within : i ≤ count
   pub same : place test (entries count book) ≡ i + place test (entries (count - i) (drop (i * 22) book))
 
@@ -71,32 +72,38 @@ module _ (test : Entry → Bool) (book : List ℕ) (count : ℕ) where
   scanning-start =
       let e : count - 0 ≡ count = omega arith in
       let p : place test (entries count book) ≡ place test (entries (count - 0) (drop (0 * 22) book)) = ap (λ k. place test (entries k book)) (sym e) in
-      record { within = omega arith; same = omega (arith, p) }
+      record { i = 0; at-is = omega arith; within = omega arith; same = omega (arith, p) }
 
-  module _ (i : ℕ) (s : Scanning test book count i) where
-    module _ (h : i < count) where
+  module _ (at : ℕ) (s : Scanning test book count at) where
+    module _ (h : at < count * 22) where
       left : ℕ
-      left = place test (entries (count - suc i) (drop (suc i * 22) book))
+      left = place test (entries (count - suc (s .i)) (drop (suc (s .i) * 22) book))
 
-      next-entry : place test (entries count book) ≡ i + cond (test (entryOf (drop (i * 22) book))) 0 (suc left)
+      below : s .i < count
+      below = omega (arith, s .at-is, h)
+
+      next-entry : place test (entries count book) ≡ s .i + cond (test (entryOf (drop at book))) 0 (suc left)
       unfolding left
       next-entry =
-          let e : count - i ≡ suc (count - suc i) = omega arith in
+          let i = s .i in
+          let e : count - i ≡ suc (count - suc i) = omega (arith, below) in
           let n : i * 22 + 22 ≡ suc i * 22 = omega arith in
           let d : drop 22 (drop (i * 22) book) ≡ drop (suc i * 22) book = drop-drop 22 (i * 22) book ∙ ap (λ k. drop k book) n in
-          s .same ∙ rw (e, d)
+          s .same ∙ rw (e, d, ← s .at-is)
 
-      pub scanning-found : test (entryOf (drop (i * 22) book)) ≡ true → i ≡ place test (entries count book)
-      scanning-found t = let e : place test (entries count book) ≡ i + 0 = next-entry ∙ rw t in omega (arith, e)
+      pub scanning-found : test (entryOf (drop at book)) ≡ true → at ≡ place test (entries count book) * 22
+      scanning-found t = let e : place test (entries count book) ≡ s .i + 0 = next-entry ∙ rw t in omega (arith, e, s .at-is)
 
-      pub scanning-next : test (entryOf (drop (i * 22) book)) ≡ false → Scanning test book count (i + 1)
+      pub scanning-next : test (entryOf (drop at book)) ≡ false → Scanning test book count (at + 22)
       unfolding left
       scanning-next t =
-          let e : place test (entries count book) ≡ i + suc left = next-entry ∙ rw t in
-          record { within = omega arith; same = rw add-one (omega (arith, e)) }
+          let e : place test (entries count book) ≡ s .i + suc left = next-entry ∙ rw t in
+          record { i = suc (s .i); at-is = omega (arith, s .at-is); within = below; same = omega (arith, e) }
 
-    pub scanning-end : count ≤ i → count ≡ place test (entries count book)
+    pub scanning-end : count * 22 ≤ at → count * 22 ≡ place test (entries count book) * 22
     scanning-end h =
-        let e : count - i ≡ 0 = omega arith in
-        let p : place test (entries count book) ≡ i + 0 = s .same ∙ rw e in
-        omega (arith, s .within, p)
+        let w = s .within in
+        let c : s .i ≡ count = omega (arith, s .at-is, h, w) in
+        let e : count - s .i ≡ 0 = omega (arith, c) in
+        let p : place test (entries count book) ≡ s .i + 0 = s .same ∙ rw e in
+        omega (arith, c, p)

@@ -39,7 +39,7 @@ module _ (before bytes book : List ℕ) (at j : ℕ) (w : length bytes ≡ 21) (
       ∙ ap (λ b. take at before ++ (b ++ (x ∷ rest))) (take-all 21 bytes (omega arith))
 
 pub stored-entry : (before bytes book : List ℕ) (count j rule v x : ℕ) → length bytes ≡ 21 → count * 22 + 22 ≤ length before → Copying before bytes (count * 22) j book → 21 ≤ j
-    → x ≡ rule * 64 + v * 16 → set book (count * 22 + 21) x ≡ withEntries (storing (newEntry bytes rule v) (entries count before)) before
+    → x ≡ newEntry bytes rule v .last → set book (count * 22 + 21) x ≡ withEntries (storing (newEntry bytes rule v) (entries count before)) before
 stored-entry before bytes book count j rule v x w f c h e =
     let n : suc (count * 22 + 21) ≡ suc count * 22 = omega arith in
     copying-end before bytes book (count * 22) j w f c h x ∙ rw (n, e) (sym (stored-bytes (newEntry bytes rule v) count before (omega arith)))

@@ -8,24 +8,20 @@ use native.Mathlib.Omega.{arith}
 use borrow.Author.Tests.{ne-eqb}
 use lib.Dec.{eqb}
 use Rattle.entries.specs.Entries.{Entry, ruleBits, verdictBits, isPublished, sameBytes, hasVerdict, holdsRule, holdsPair, answers, firstVerdict, find, newEntry, storing}
-use Rattle.entries.specs.Published.{PairVerdict, pairVerdict, publishedPairs}
+use Rattle.entries.specs.Published.{pairVerdict, publishedPairs, verdictAmong}
 use Rattle.entries.specs.declared.Caller.the-variants.{Trainer}
 
--- the verdict of the first of a pair
-abbrev firstOf : (bytes : List ℕ) (rule : ℕ) → List PairVerdict → ℕ
-firstOf bytes rule [] = 0
-firstOf bytes rule (p ∷ ps) = cond (sameBytes (p .bytes) bytes && eqb (p .rule) rule) (p .verdict) (firstOf bytes rule ps)
-
-trainer-finds : (bytes : List ℕ) (rule : ℕ) (es : List Entry) → find Trainer bytes rule es ≡ firstOf bytes rule (publishedPairs es)
+-- by the published pairs and verdicts
+pub trainer-finds : (bytes : List ℕ) (rule : ℕ) (es : List Entry) → find Trainer bytes rule es ≡ verdictAmong bytes rule (publishedPairs es)
 unfolding find holdsPair holdsRule
 trainer-finds bytes rule [] = refl
 trainer-finds bytes rule (e ∷ es) =
     go (isPublished (e .last)) (hasVerdict (e .last)) (sameBytes (e .bytes) bytes) refl (eqb (ruleBits (e .last)) rule) refl (trainer-finds bytes rule es)
   where
     go : (p h s : Bool) → sameBytes (e .bytes) bytes ≡ s → (r : Bool) → eqb (ruleBits (e .last)) rule ≡ r
-        → firstVerdict (answers Trainer bytes rule) es ≡ firstOf bytes rule (publishedPairs es)
+        → firstVerdict (answers Trainer bytes rule) es ≡ verdictAmong bytes rule (publishedPairs es)
         → cond (p && (s && (r && h))) (verdictBits (e .last)) (firstVerdict (answers Trainer bytes rule) es)
-        ≡ firstOf bytes rule (cond (p && h) (pairVerdict e ∷ publishedPairs es) (publishedPairs es))
+        ≡ verdictAmong bytes rule (cond (p && h) (pairVerdict e ∷ publishedPairs es) (publishedPairs es))
     go false h s a r b i = i
     go true true true a true b i = rw (a, b)
     go true true true a false b i = rw (a, b) i
@@ -36,7 +32,7 @@ trainer-finds bytes rule (e ∷ es) =
 
 -- the same published pairs and verdicts: a trainer finds the same
 pub trainer-alike : (es fs : List Entry) → publishedPairs es ≡ publishedPairs fs → (bytes : List ℕ) (rule : ℕ) → find Trainer bytes rule es ≡ find Trainer bytes rule fs
-trainer-alike es fs h bytes rule = trainer-finds bytes rule es ∙ ap (firstOf bytes rule) h ∙ sym (trainer-finds bytes rule fs)
+trainer-alike es fs h bytes rule = trainer-finds bytes rule es ∙ ap (verdictAmong bytes rule) h ∙ sym (trainer-finds bytes rule fs)
 
 -- a new entry is not published
 pub unpublished : (bytes : List ℕ) (rule v : ℕ) (es : List Entry) → publishedPairs (storing (newEntry bytes rule v) es) ≡ publishedPairs es

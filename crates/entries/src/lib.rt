@@ -149,19 +149,20 @@ fn answers_at(who: Caller, book: &[u8], at: usize, bytes: &[u8], rule: u64) -> b
     }
 }
 
-// How many of so many entries come before the first that answers the caller for the pair: all of them if none does.
+// Where the first of so many entries that answers the caller for the pair begins; where they end if none does.
 pub fn first(who: Caller, book: &[u8], count: usize, bytes: &[u8], rule: u64) -> usize
     requires { ⌜ (length (now bytes) ≡ 21) × (count * 22 ≤ length (now book)) ⌝ }
-    ensures { λ r. ⌜ r ≡ place (answers who (now (bytes .entry)) rule) (entries count (now (book .entry))) ⌝ }
+    ensures { λ r. ⌜ r ≡ place (answers who (now (bytes .entry)) rule) (entries count (now (book .entry))) * 22 ⌝ }
 {
-    let mut i: usize = 0;
-    while i < count {
-        if answers_at(who, book, i * ENTRY, bytes, rule) {
-            return i;
+    let end = count * ENTRY;
+    let mut at: usize = 0;
+    while at < end {
+        if answers_at(who, book, at, bytes, rule) {
+            return at;
         }
-        i += 1;
+        at += ENTRY;
     }
-    count
+    end
 }
 
 // What the caller finds for the pair among so many entries: 1 True, 2 False, 0 not held.
@@ -169,9 +170,9 @@ pub fn find(who: Caller, book: &[u8], count: usize, bytes: &[u8], rule: u64) -> 
     requires { ⌜ (length (now bytes) ≡ 21) × (count * 22 ≤ length (now book)) ⌝ }
     ensures { λ r. ⌜ r ≡ find who (now (bytes .entry)) rule (entries count (now (book .entry))) ⌝ }
 {
-    let i = first(who, book, count, bytes, rule);
-    if i < count {
-        book[i * ENTRY + RECORD] / 16 % 4
+    let at = first(who, book, count, bytes, rule);
+    if at < count * ENTRY {
+        book[at + RECORD] / 16 % 4
     } else {
         0
     }
@@ -206,11 +207,10 @@ fn with_mark(last: u8) -> u8
     last / 2 * 2 + 1
 }
 
-// Sets the mark in the entry after the first i.
-pub fn mark(book: &mut [u8], i: usize)
-    requires { ⌜ i * 22 + 22 ≤ length (now book) ⌝ }
-    ensures { λ r. ⌜ now (book .exit) ≡ marking i (now (book .entry)) ⌝ }
+// Sets the mark in the entry that begins at a place.
+pub fn mark(book: &mut [u8], at: usize)
+    requires { ⌜ at + 22 ≤ length (now book) ⌝ }
+    ensures { λ r. ⌜ now (book .exit) ≡ marking at (now (book .entry)) ⌝ }
 {
-    let at = i * ENTRY + RECORD;
-    book[at] = with_mark(book[at]);
+    book[at + RECORD] = with_mark(book[at + RECORD]);
 }

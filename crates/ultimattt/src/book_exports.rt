@@ -71,8 +71,8 @@ pub extern "C" fn uttt_book_add(
 ) -> AddAnswer
     ensures { λ r. ⌜ (let o = addCall (callerOf trainer) (now (bytes .entry)) (length (now (words .entry))) rule (limits limit budget interval) (bookOf (now (book .entry)) count) in
         bookOutcome (r .code) (r .index) (r .verdict) (o .searched) (bookOf (now (book .exit)) (r .count)) ≡ o) ⌝ }
-    ensures pool { λ r. ⌜ PoolAfterAdd
-        (addCall (callerOf trainer) (now (bytes .entry)) (length (now (words .entry))) rule (limits limit budget interval) (bookOf (now (book .entry)) count) .searched) (now (words .entry)) (now (words .exit)) ⌝ }
+    ensures pool { λ r. ⌜ (let o = addCall (callerOf trainer) (now (bytes .entry)) (length (now (words .entry))) rule (limits limit budget interval) (bookOf (now (book .entry)) count) in
+        PoolAfterAdd (o .searched) (now (words .entry)) (now (words .exit))) ⌝ }
 {
     let l = SearchLimits {
         limit,

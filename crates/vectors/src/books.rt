@@ -7,6 +7,7 @@ ghost use Rattle.vectors.specs.Words.{Inside};
 use crate::answers;
 use crate::fields;
 use crate::line;
+use crate::publishing;
 use crate::searches;
 use answers::Outcome;
 use answers::Stored;
@@ -115,12 +116,20 @@ fn dump(s: &[u8], at: usize, bytes: &Bytes, length: usize, count: u64) -> Outcom
 }
 
 // `book lookup WHO RECORD RULE => VALUE`, from the arrow on.
-fn lookup(s: &[u8], at: usize, book: &[u8], count: u64, record: &[u8], rule: u64) -> Outcome {
+fn lookup(
+    s: &[u8],
+    at: usize,
+    trainer: bool,
+    book: &[u8],
+    count: u64,
+    record: &[u8],
+    rule: u64,
+) -> Outcome {
     let arrow = line::next_word(s, at);
     if !line::is_word(s, arrow, b"=>") {
         return Outcome::Unreadable;
     }
-    let got = ultimattt::book_exports::uttt_book_lookup(book, count, record, rule);
+    let got = ultimattt::book_exports::uttt_book_lookup(trainer, book, count, record, rule);
     answers::settle_value(s, arrow.end, got.code as u64, got.index, got.verdict as u64)
 }
 
@@ -182,6 +191,7 @@ fn closed_after_add(got: AddAnswer, count: u64, words: usize) -> usize {
 fn add(
     s: &[u8],
     at: usize,
+    trainer: bool,
     book: &mut [u8],
     count: &mut u64,
     record: &[u8],
@@ -195,6 +205,7 @@ fn add(
     let mut pool = fields::fresh_pool();
     let before = *count;
     let got = ultimattt::book_exports::uttt_book_add(
+        trainer,
         book,
         before,
         record,
@@ -213,11 +224,12 @@ fn add(
     )
 }
 
-// Runs the call of that name, on the book and the record, from the rule on. `want` becomes the book's array as it should be after the call.
+// Runs the call of that name, by a trainer or an arbiter, on the book and the record, from the rule on. `want` becomes the book's array as it should be after the call.
 fn call_of(
     s: &[u8],
     verb: Word,
     at: usize,
+    trainer: bool,
     book: &mut [u8],
     count: &mut u64,
     record: &[u8],
@@ -229,15 +241,18 @@ fn call_of(
         return Outcome::Unreadable;
     };
     if line::is_word(s, verb, b"add") {
-        return add(s, next, book, count, record, rule, want);
+        return add(s, next, trainer, book, count, record, rule, want);
     }
     if line::is_word(s, verb, b"lookup") {
-        return lookup(s, next, book, *count, record, rule);
+        return lookup(s, next, trainer, book, *count, record, rule);
+    }
+    if line::is_word(s, verb, b"publish") {
+        return publishing::publish(s, next, trainer, book, *count, record, rule, want);
     }
     Outcome::Unreadable
 }
 
-// Runs a call of the arbiter's, on the record that follows. A book that was taken is no longer than its array.
+// Runs a call of an arbiter's or a trainer's, on the record that follows. A book that was taken is no longer than its array.
 fn call(
     s: &[u8],
     verb: Word,
@@ -249,8 +264,11 @@ fn call(
     requires { ⌜ Inside verb (now s) ⌝ }
 {
     let who = line::next_word(s, verb.end);
-    if !line::is_word(s, who, b"arbiter") {
-        return Outcome::Unreadable;
+    let trainer = line::is_word(s, who, b"trainer");
+    if !trainer {
+        if !line::is_word(s, who, b"arbiter") {
+            return Outcome::Unreadable;
+        }
     }
     let mut record = [0u8; 512];
     let Count::Bytes(n, place) = line::read_bytes(s, who.end, &mut record) else {
@@ -263,6 +281,7 @@ fn call(
         s,
         verb,
         place,
+        trainer,
         &mut bytes[..length],
         count,
         &record[..n],
@@ -270,7 +289,7 @@ fn call(
     )
 }
 
-// Runs a line of the book's, from the word after `book` on. After an add or a lookup every byte of the array must be as it should.
+// Runs a line of the book's, from the word after `book` on. After an add, a lookup or a publish every byte of the array must be as it should.
 pub fn run(s: &[u8], at: usize, bytes: &mut Bytes, length: &mut usize, count: &mut u64) -> Outcome {
     let verb = line::next_word(s, at);
     let end = verb.end;

@@ -5,6 +5,7 @@ mod books;
 mod calls;
 mod fields;
 mod line;
+mod publishing;
 mod searches;
 
 ghost use Prim.Native.Nat.{_≤_};

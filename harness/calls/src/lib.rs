@@ -9,6 +9,6 @@ pub mod record;
 pub mod table;
 pub mod tool;
 
-pub use book::{Book, BookCall};
+pub use book::{Book, BookCall, Who};
 pub use line::{Answer, Call, Fields, FullVerdict, Kind};
 pub use record::Position;

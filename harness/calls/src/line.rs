@@ -160,8 +160,10 @@ pub enum Answer {
         verdict: Verdict,
         count: u64,
     },
-    /// The verdict that a lookup found, if the pair is held.
+    /// The verdict that a lookup found, if there is one for its caller.
     Found(Option<Verdict>),
+    /// Whether the pair of a publish is held, and so published.
+    Published(bool),
     Refused {
         number: u32,
         index: u64,
@@ -206,7 +208,8 @@ impl fmt::Display for Answer {
             Answer::Book(book) => write!(f, "{}", book),
             Answer::Added { verdict, count } => write!(f, "{:?} {}", verdict, count),
             Answer::Found(Some(verdict)) => write!(f, "{:?}", verdict),
-            Answer::Found(None) => write!(f, "notheld"),
+            Answer::Published(true) => write!(f, "published"),
+            Answer::Found(None) | Answer::Published(false) => write!(f, "notheld"),
             Answer::Refused { number, index } => write!(f, "refused {} {}", number, index),
         }
     }

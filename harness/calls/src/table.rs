@@ -1,10 +1,10 @@
-//! The table of refusals (MANUAL, Turned back), checks 1 to 10 and 16 to 18, as plain code of our own. The original has
+//! The table of refusals (MANUAL, Turned back), checks 1 to 10 and 16 to 19, as plain code of our own. The original has
 //! no such checks, so these are not its answers: they decide what is handed to it, and they are what a
 //! refusal of the proved library is compared with. Refusals 11 to 15 are the original's own errors.
 //!
-//! Every function gives the lowest check that fails, or none.
+//! Every function gives the first check that fails, in the order of the table (MANUAL, Calls), or none.
 
-use crate::book::Book;
+use crate::book::{Book, Who};
 use crate::record::{Position, EMPTY, FREE_CHOICE, LENGTH, O, X};
 
 const LINES: [[usize; 3]; 8] = [[0, 1, 2], [3, 4, 5], [6, 7, 8], [0, 3, 6], [1, 4, 7], [2, 5, 8], [0, 4, 8], [2, 4, 6]];
@@ -130,13 +130,32 @@ pub fn referee_refusal(record: &[u8], rule: u64) -> Option<u32> {
     record_refusal(record).or(first(&[(10, rule > LARGEST_RULE), (16, large)]))
 }
 
-/// Checks 1 to 6, 10 for the rule and 17 of a lookup.
+/// Checks 1 to 6, 10 for the rule and 17 of a lookup, by whoever calls.
 pub fn lookup_refusal(book: &Book, record: &[u8], rule: u64) -> Option<u32> {
     record_refusal(record).or(first(&[(10, rule > LARGEST_RULE), (17, book.is_broken())]))
 }
 
-/// Checks 1 to 6, 8 to 10, 17 and 18 of an add.
-pub fn add_refusal(book: &Book, record: &[u8], rule: u64, pool: u64, budget: u64, interval: u64) -> Option<u32> {
-    let full = book.count == book.entries() && book.held(record, rule).is_none();
-    search_refusal(record, rule, pool, budget, interval).or(first(&[(17, book.is_broken()), (18, full)]))
+/// Check 19, then a lookup's, of a publish.
+pub fn publish_refusal(book: &Book, who: Who, record: &[u8], rule: u64) -> Option<u32> {
+    caller_refusal(who).or(lookup_refusal(book, record, rule))
+}
+
+/// Check 19, then 1 to 6, 8 to 10, 17 and 18 of an add.
+pub fn add_refusal(
+    book: &Book,
+    who: Who,
+    record: &[u8],
+    rule: u64,
+    pool: u64,
+    budget: u64,
+    interval: u64,
+) -> Option<u32> {
+    let full = book.count == book.entries() && book.held(Who::Arbiter, record, rule).is_none();
+    let settings = search_refusal(record, rule, pool, budget, interval);
+    caller_refusal(who).or(settings).or(first(&[(17, book.is_broken()), (18, full)]))
+}
+
+/// Check 19, ahead of all others.
+fn caller_refusal(who: Who) -> Option<u32> {
+    first(&[(19, who.is_trainer())])
 }

@@ -100,7 +100,7 @@ fn records_are_read_bit_by_bit() {
 }
 
 #[test]
-fn the_lowest_check_answers() {
+fn the_first_check_answers() {
     let start = Position::start();
     let refusal = |position: Position| table::record_refusal(&position.write());
     assert_eq!(table::record_refusal(&[0x78; 20]), Some(1));

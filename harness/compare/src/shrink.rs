@@ -60,7 +60,7 @@ fn smaller(call: &Call) -> Vec<Call> {
     }
 }
 
-/// A book with fewer entries, bytes or used entries; a lookup or an add as other calls are made smaller.
+/// A book with fewer entries, bytes or used entries; a call of it as other calls are made smaller.
 fn smaller_lines(line: &BookCall) -> Vec<Call> {
     match line {
         BookCall::New { entries } => {
@@ -68,13 +68,18 @@ fn smaller_lines(line: &BookCall) -> Vec<Call> {
         }
         BookCall::Set(book) => books(book).map(|book| Call::Book(BookCall::Set(book))).collect(),
         BookCall::Dump => vec![],
-        BookCall::Lookup { record, rule } => {
-            records(record).map(|record| Call::Book(BookCall::Lookup { record, rule: *rule })).collect()
+        BookCall::Lookup { who, record, rule } => {
+            let with = |record| Call::Book(BookCall::Lookup { who: *who, record, rule: *rule });
+            records(record).map(with).collect()
         }
-        BookCall::Add { record, rule, pool, limit, budget, interval } => {
-            let rule = *rule;
+        BookCall::Publish { who, record, rule } => {
+            let with = |record| Call::Book(BookCall::Publish { who: *who, record, rule: *rule });
+            records(record).map(with).collect()
+        }
+        BookCall::Add { who, record, rule, pool, limit, budget, interval } => {
+            let (who, rule) = (*who, *rule);
             searches(record, [*pool, *limit, *budget, *interval], |record, [pool, limit, budget, interval]| {
-                Call::Book(BookCall::Add { record, rule, pool, limit, budget, interval })
+                Call::Book(BookCall::Add { who, record, rule, pool, limit, budget, interval })
             })
         }
     }

@@ -1,6 +1,6 @@
 //! A tally of answers by what they are, so that the run shows what it covered.
 
-use calls::{Answer, BookCall, Call};
+use calls::{Answer, Call};
 use oracle::Ending;
 use std::collections::BTreeMap;
 
@@ -16,27 +16,22 @@ pub fn kind(call: &Call, answer: &Answer, count: u64) -> String {
         }
         Answer::Moves(moves) if moves.is_empty() => "none".to_string(),
         Answer::Moves(_) | Answer::Record(_) => "answered".to_string(),
-        Answer::Value(_) | Answer::Found(_) => answer.to_string(),
+        Answer::Value(_) | Answer::Found(_) | Answer::Published(_) => answer.to_string(),
         Answer::Opening { .. } => how_it_ended(call),
         Answer::Added { verdict, count: after } => {
             format!("{:?}, {}", verdict, if *after > count { "stored" } else { "not stored" })
         }
         Answer::Ok | Answer::Book(_) => "done".to_string(),
     };
-    format!("{:<11}  {}", name(call), outcome)
+    format!("{:<20}  {}", name(call), outcome)
 }
 
-/// The word that the call's line starts with, two words of a book's line.
+/// The word that the call's line starts with, and those up to who calls of a book's line.
 fn name(call: &Call) -> String {
-    let word = match call {
-        Call::Book(BookCall::New { .. }) => " new",
-        Call::Book(BookCall::Set(_)) => " set",
-        Call::Book(BookCall::Dump) => " dump",
-        Call::Book(BookCall::Add { .. }) => " add",
-        Call::Book(BookCall::Lookup { .. }) => " lookup",
-        _ => "",
-    };
-    format!("{}{}", call.kind().name(), word)
+    match call {
+        Call::Book(line) => format!("{} {}", call.kind().name(), line.name()),
+        _ => call.kind().name().to_string(),
+    }
 }
 
 /// What ended the opening of two sheets.

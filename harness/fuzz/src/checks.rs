@@ -44,7 +44,7 @@ pub fn written(call: &Call, a: &Answered) -> usize {
     }
 }
 
-/// The refusal of checks 1 to 10 and 16 to 18, if one is due.
+/// The refusal of checks 1 to 10 and 16 to 19, if one is due.
 fn due(call: &Call, book: &Book) -> Option<u32> {
     match call {
         Call::Moves { record, output } => table::output_refusal(record, *output, MOVES_ROOM),

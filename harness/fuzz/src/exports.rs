@@ -1,4 +1,4 @@
-//! The eight exports as pointers, so that wrong ones can stand in for them (`wrong`).
+//! The nine exports as pointers, so that wrong ones can stand in for them (`wrong`).
 
 use uttt::ffi;
 
@@ -8,9 +8,22 @@ type Referee = unsafe extern "C" fn(*const u8, usize, u64) -> ffi::RefereeAnswer
 type Search = unsafe extern "C" fn(*const u8, usize, *mut u32, usize, u64, u64, u64, u64) -> ffi::SearchAnswer;
 type Full = unsafe extern "C" fn(*const u8, usize, *mut u32, usize, u64, u64, u64) -> ffi::FullAnswer;
 type Sheets = unsafe extern "C" fn(*const u8, usize, *const u8, usize, *mut u8, usize, *mut u32) -> u64;
-type Lookup = unsafe extern "C" fn(*const u8, usize, u64, *const u8, usize, u64) -> ffi::LookupAnswer;
-type Add =
-    unsafe extern "C" fn(*mut u8, usize, u64, *const u8, usize, *mut u32, usize, u64, u64, u64, u64) -> ffi::AddAnswer;
+type Lookup = unsafe extern "C" fn(bool, *const u8, usize, u64, *const u8, usize, u64) -> ffi::LookupAnswer;
+type Publish = unsafe extern "C" fn(bool, *mut u8, usize, u64, *const u8, usize, u64) -> ffi::PublishAnswer;
+type Add = unsafe extern "C" fn(
+    bool,
+    *mut u8,
+    usize,
+    u64,
+    *const u8,
+    usize,
+    *mut u32,
+    usize,
+    u64,
+    u64,
+    u64,
+    u64,
+) -> ffi::AddAnswer;
 
 #[derive(Clone, Copy)]
 pub struct Exports {
@@ -21,6 +34,7 @@ pub struct Exports {
     pub full: Full,
     pub sheets: Sheets,
     pub lookup: Lookup,
+    pub publish: Publish,
     pub add: Add,
 }
 
@@ -33,5 +47,6 @@ pub const LIBRARY: Exports = Exports {
     full: ffi::uttt_full_verdict,
     sheets: ffi::uttt_agreed_opening,
     lookup: ffi::uttt_book_lookup,
+    publish: ffi::uttt_book_publish,
     add: ffi::uttt_book_add,
 };

@@ -1,7 +1,7 @@
 //! Calls to try: the generator's, the same with bytes and settings damaged, and bytes at random.
 
 use calls::table::{LARGEST_BUDGET, LARGEST_POOL};
-use calls::{BookCall, Call, Kind};
+use calls::{BookCall, Call, Kind, Who};
 use oracle::generate::{self, Random};
 
 /// The longest record, list of moves, output and book.
@@ -41,10 +41,12 @@ fn damage(random: &mut Random, call: &mut Call) {
             (0, Call::Full { pool, limit, budget, interval, .. }) => {
                 *one_of(random, [pool, limit, budget, interval]) = number(random)
             }
-            (0, Call::Referee { rule, .. } | Call::Book(BookCall::Lookup { rule, .. })) => *rule = number(random),
             (0, Call::Book(BookCall::Add { rule, pool, limit, budget, interval, .. })) => {
                 *one_of(random, [rule, pool, limit, budget, interval]) = number(random)
             }
+            (0, Call::Referee { rule, .. }) => *rule = number(random),
+            (0, Call::Book(BookCall::Lookup { rule, .. } | BookCall::Publish { rule, .. })) => *rule = number(random),
+            (1, Call::Book(line)) if line.asked().is_some() => any_caller(random, line),
             (0, Call::Book(BookCall::Set(book))) => book.count = number(random),
             (0, Call::Sheets { second, .. }) => damage_bytes(random, second),
             (1, Call::Moves { output, .. } | Call::Replay { output, .. } | Call::Sheets { output, .. }) => {
@@ -71,9 +73,8 @@ fn scramble(random: &mut Random, call: &mut Call) {
     match call {
         Call::Moves { output, .. } => *output = length(random),
         Call::Replay { moves, output, .. } => (*moves, *output) = (bytes(random), length(random)),
-        Call::Referee { rule, .. } | Call::Book(BookCall::Lookup { rule, .. }) => *rule = number(random),
-        Call::Search { rule, pool, limit, budget, interval, .. }
-        | Call::Book(BookCall::Add { rule, pool, limit, budget, interval, .. }) => {
+        Call::Referee { rule, .. } => *rule = number(random),
+        Call::Search { rule, pool, limit, budget, interval, .. } => {
             [rule, pool, limit, budget, interval].into_iter().for_each(|n| *n = number(random))
         }
         Call::Full { pool, limit, budget, interval, .. } => {
@@ -83,8 +84,27 @@ fn scramble(random: &mut Random, call: &mut Call) {
             *second = if random.once_in(2) { bytes(random) } else { first.clone() };
             *output = length(random)
         }
-        Call::Book(BookCall::Set(book)) => book.count = number(random),
-        Call::Book(BookCall::New { .. } | BookCall::Dump) => (),
+        Call::Book(line) => scramble_line(random, line),
+    }
+}
+
+/// All but the record or the bytes of a book, which are at random by then.
+fn scramble_line(random: &mut Random, line: &mut BookCall) {
+    any_caller(random, line);
+    match line {
+        BookCall::Add { rule, pool, limit, budget, interval, .. } => {
+            [rule, pool, limit, budget, interval].into_iter().for_each(|n| *n = number(random))
+        }
+        BookCall::Lookup { rule, .. } | BookCall::Publish { rule, .. } => *rule = number(random),
+        BookCall::Set(book) => book.count = number(random),
+        BookCall::New { .. } | BookCall::Dump => (),
+    }
+}
+
+/// Either caller, if there is one.
+fn any_caller(random: &mut Random, line: &mut BookCall) {
+    if let BookCall::Add { who, .. } | BookCall::Lookup { who, .. } | BookCall::Publish { who, .. } = line {
+        *who = random.pick(&Who::ALL);
     }
 }
 
@@ -96,7 +116,9 @@ fn first_of(call: &mut Call) -> Option<&mut Vec<u8>> {
         | Call::Search { record, .. }
         | Call::Full { record, .. }
         | Call::Referee { record, .. }
-        | Call::Book(BookCall::Add { record, .. } | BookCall::Lookup { record, .. }) => Some(record),
+        | Call::Book(
+            BookCall::Add { record, .. } | BookCall::Lookup { record, .. } | BookCall::Publish { record, .. },
+        ) => Some(record),
         Call::Sheets { first, .. } => Some(first),
         Call::Book(BookCall::Set(book)) => Some(&mut book.bytes),
         Call::Book(BookCall::New { .. } | BookCall::Dump) => None,

@@ -9,6 +9,7 @@
 //! fuzz wrong NUMBER                one of those
 //! ```
 
+mod book_calls;
 mod books;
 mod checks;
 mod exports;
@@ -20,8 +21,9 @@ mod watch;
 mod wide;
 mod wrong;
 mod wrong_books;
+mod wrong_marks;
 
-use calls::{Book, BookCall, Call, Kind};
+use calls::{Book, Call};
 use exports::{Exports, LIBRARY};
 use guarded::Edge;
 use oracle::generate::{reading, Random};
@@ -69,7 +71,7 @@ fn usage() -> ExitCode {
 
 /// What is wrong with each, and its exports.
 fn wrong_libraries() -> impl Iterator<Item = (&'static str, Exports)> {
-    wrong::ALL.into_iter().chain(wrong_books::ALL)
+    wrong::ALL.into_iter().chain(wrong_books::ALL).chain(wrong_marks::ALL)
 }
 
 /// Runs every wrong library in a process of its own; each must end with a violation.
@@ -112,7 +114,7 @@ fn fuzz(exports: &Exports, seed: u64, count: u64, seconds: u64, a_call: u32) -> 
             println!("{} calls in order (seed {})", tally.values().sum::<u64>(), seed);
             tally.iter().for_each(|(kind, times)| println!("{:>9}  {}", times, kind));
             match wide {
-                Some(wide) => println!("{:>9}  with a buffer longer than 4294967296", wide),
+                Some(wide) => println!("{:>9}  with a length or a count over 4294967296", wide),
                 None => println!("no buffer longer than 4294967296 was lent: the system has not so many addresses"),
             }
             ExitCode::SUCCESS
@@ -153,8 +155,8 @@ fn tallied(lender: &mut Lender, list: &[Call], random: &mut Random, tally: &mut 
         let line = books::lines(call, &book);
         let answered = one(lender, call, &book, &line, random).map_err(|m| format!("{}\n  call: {}", m, line))?;
         *tally.entry(kind(call, &answered)).or_default() += 1;
-        if let Call::Book(line) = call {
-            books::take_over(line, &mut book, answered);
+        if let Call::Book(_) = call {
+            books::take_over(&mut book, answered);
         }
     }
     Ok(())
@@ -177,23 +179,18 @@ fn one(lender: &mut Lender, call: &Call, book: &Book, line: &str, random: &mut R
 }
 
 fn kind(call: &Call, a: &Answered) -> String {
-    let outcome = match (call.kind(), a.code) {
-        (_, 1..) => format!("refused {:>2}", a.code),
-        (Kind::Search, _) => format!("verdict {}, cause {}", a.numbers[0], a.numbers[8]),
-        (Kind::Full, _) => format!("verdict {}, causes {} and {}", a.numbers[0], a.numbers[9], a.numbers[18]),
-        (Kind::Referee, _) => format!("value {}", a.numbers[0]),
-        (Kind::Book, _) => format!("verdict {}, {}", a.numbers[0], books::how(a)),
-        (Kind::Moves | Kind::Sheets, _) if a.numbers[0] == 0 => "none".to_string(),
+    let outcome = match call {
+        _ if a.code != 0 => format!("refused {:>2}", a.code),
+        Call::Search { .. } => format!("verdict {}, cause {}", a.numbers[0], a.numbers[8]),
+        Call::Full { .. } => format!("verdict {}, causes {} and {}", a.numbers[0], a.numbers[9], a.numbers[18]),
+        Call::Referee { .. } => format!("value {}", a.numbers[0]),
+        Call::Book(line) => books::outcome(line, a),
+        Call::Moves { .. } | Call::Sheets { .. } if a.numbers[0] == 0 => "none".to_string(),
         _ => "answered".to_string(),
     };
-    format!("{:<7}  {}", name(call), outcome)
-}
-
-/// The call's name; of a book's, add or lookup.
-fn name(call: &Call) -> &'static str {
-    match call {
-        Call::Book(BookCall::Add { .. }) => "add",
-        Call::Book(BookCall::Lookup { .. }) => "lookup",
-        call => call.kind().name(),
-    }
+    let name = match call {
+        Call::Book(line) => line.name(),
+        call => call.kind().name().to_string(),
+    };
+    format!("{:<15}  {}", name, outcome)
 }

@@ -1,4 +1,4 @@
-//! Buffers longer than 32 bits tell: a length cut to 32 bits would give another answer. Of such a buffer the
+//! Lengths and counts that 32 bits can't tell: cut to 32 bits they would give another answer. Of a buffer so long the
 //! first page can be written, the others only read.
 
 use crate::books::added;
@@ -6,7 +6,7 @@ use crate::exports::Exports;
 use crate::guarded::Region;
 use crate::run::{judged, searched, Answered};
 use crate::watch;
-use calls::book::{entry, ENTRY};
+use calls::book::{entry, ENTRY, MARK};
 use calls::hex;
 use calls::record::{Position, LENGTH};
 use calls::table::MOVES_ROOM;
@@ -16,6 +16,9 @@ const NODE_WORDS: usize = 5;
 /// The settings of the searches: rule 0, no limit, one expansion, interval 1.
 const RULE: u64 = 0;
 const LIMIT: u64 = u64::MAX;
+/// Who calls.
+const ARBITER: bool = false;
+const TRAINER: bool = true;
 /// D of the manual.
 const DRAWN: &str = "7AB400AC0054001500054000A8002A000A80054000";
 
@@ -28,12 +31,13 @@ pub fn check(exports: &Exports, seconds: u32) -> Result<Option<usize>, String> {
     else {
         return Ok(None);
     };
-    let tried = watch::during("a buffer longer than 4294967296", seconds, || {
+    let tried = watch::during("a length or a count over 4294967296", seconds, || {
         let parts = [
             long_records(exports, &mut long)?,
             long_lists(exports, &mut long)?,
             long_sheets(exports, &mut long)?,
             long_books(exports, &mut long)?,
+            large_counts(exports)?,
             long_pools(exports, &mut pool)?,
         ];
         Ok::<Vec<Tried>, String>(parts.into_iter().flatten().collect())
@@ -62,8 +66,9 @@ fn long_records(exports: &Exports, long: &mut Region) -> Result<Vec<Tried>, Stri
         let moves = (exports.moves)(at, length, to, room);
         let replay = (exports.replay)(at, length, at, 0, to, room);
         let referee = (exports.referee)(at, length, RULE);
-        let lookup = (exports.lookup)(entries, ENTRY, 0, at, length, RULE);
-        let add = (exports.add)(entries, ENTRY, 0, at, length, words, size, RULE, LIMIT, 1, 1);
+        let lookup = (exports.lookup)(TRAINER, entries, ENTRY, 0, at, length, RULE);
+        let publish = (exports.publish)(ARBITER, entries, ENTRY, 0, at, length, RULE);
+        let add = (exports.add)(ARBITER, entries, ENTRY, 0, at, length, words, size, RULE, LIMIT, 1, 1);
         vec![
             ("moves, record", (1, 0), bare(moves.code, moves.index)),
             ("replay, record", (1, 0), bare(replay.code, replay.index)),
@@ -71,6 +76,7 @@ fn long_records(exports: &Exports, long: &mut Region) -> Result<Vec<Tried>, Stri
             ("search, record", (1, 0), searched((exports.search)(at, length, words, size, RULE, LIMIT, 1, 1))),
             ("full, record", (1, 0), judged((exports.full)(at, length, words, size, LIMIT, 1, 1))),
             ("lookup, record", (1, 0), bare(lookup.code, lookup.index)),
+            ("publish, record", (1, 0), bare(publish.code, publish.index)),
             ("add, record", (1, 0), bare(add.code, add.index)),
         ]
     };
@@ -130,27 +136,55 @@ fn long_sheets(exports: &Exports, long: &mut Region) -> Result<Vec<Tried>, Strin
 }
 
 /// A book of whole entries with two of a drawn position, True under rules 0 and 1, of which the first is used: cut
-/// short it would be no multiple of an entry. The lookup finds the first, and the add writes over the second: the
-/// position is False under rule 1. The verdict stands in the index's place.
+/// short it would be no multiple of an entry. The first is published and found, and the add writes over the second: the
+/// position is False under rule 1. What a call found or did stands in the index's place.
 fn long_books(exports: &Exports, long: &mut Region) -> Result<Vec<Tried>, String> {
     let record = hex::read(DRAWN).expect("hexadecimal");
     let (from, size, length) = (record.as_ptr(), record.len(), OVER.next_multiple_of(ENTRY));
-    let held = entry(&record, 0, 1, 0);
     let mut pool = [0; NODE_WORDS];
-    long.lend_long(length, &[&held[..], &entry(&record, 1, 1, 0)].concat());
+    long.lend_long(length, &[entry(&record, 0, 1, 0), entry(&record, 1, 1, 0)].concat());
     let at = long.pointer();
+    let (words, k) = (pool.as_mut_ptr(), pool.len());
     // SAFETY: pointers and lengths belong together, and the buffers are apart.
-    let (lookup, add) = unsafe {
-        let lookup = (exports.lookup)(at, length, 1, from, size, 0);
-        (lookup, (exports.add)(at, length, 1, from, size, pool.as_mut_ptr(), pool.len(), 1, LIMIT, 0, 1))
+    let (lookup, publish, published, add) = unsafe {
+        let lookup = (exports.lookup)(ARBITER, at, length, 1, from, size, 0);
+        let publish = (exports.publish)(ARBITER, at, length, 1, from, size, 0);
+        let published = (exports.lookup)(TRAINER, at, length, 1, from, size, 0);
+        let add = (exports.add)(ARBITER, at, length, 1, from, size, words, k, 1, LIMIT, 0, 1);
+        (lookup, publish, published, add)
     };
     long.unchanged(2 * ENTRY)?;
-    if add.count != 2 || long.bytes()[..2 * ENTRY] != [held, entry(&record, 1, 2, 0)].concat() {
+    if add.count != 2 || long.bytes()[..2 * ENTRY] != [entry(&record, 0, 1, MARK), entry(&record, 1, 2, 0)].concat() {
         return Err(format!("a long book: count {} after an add, or another entry", add.count));
     }
     Ok(vec![
         ("lookup, book", (0, 1), bare(lookup.code, lookup.verdict.into())),
+        ("publish, book", (0, 1), bare(publish.code, publish.published.into())),
+        ("lookup, published", (0, 1), bare(published.code, published.verdict.into())),
         ("add, book", (0, 2), bare(add.code, add.verdict.into())),
+    ])
+}
+
+/// A book of one entry, and a count that cut short would be 1: refused by check 17, and nothing is written.
+fn large_counts(exports: &Exports) -> Result<Vec<Tried>, String> {
+    let record = hex::read(DRAWN).expect("hexadecimal");
+    let (from, size, mut pool) = (record.as_ptr(), record.len(), [0; NODE_WORDS]);
+    let held = entry(&record, RULE, 1, 0);
+    let mut book = held.clone();
+    let (at, count, words) = (book.as_mut_ptr(), OVER as u64 + 1, pool.as_mut_ptr());
+    // SAFETY: pointers and lengths belong together, and the buffers are apart.
+    let (lookup, publish, add) = unsafe {
+        let lookup = (exports.lookup)(ARBITER, at, ENTRY, count, from, size, RULE);
+        let publish = (exports.publish)(ARBITER, at, ENTRY, count, from, size, RULE);
+        (lookup, publish, (exports.add)(ARBITER, at, ENTRY, count, from, size, words, NODE_WORDS, RULE, LIMIT, 0, 1))
+    };
+    if book != held || pool != [0; NODE_WORDS] {
+        return Err("a large count: something was written".to_string());
+    }
+    Ok(vec![
+        ("lookup, count", (17, 0), bare(lookup.code, lookup.index)),
+        ("publish, count", (17, 0), bare(publish.code, publish.index)),
+        ("add, count", (17, 0), bare(add.code, add.index)),
     ])
 }
 
@@ -168,7 +202,7 @@ fn long_pools(exports: &Exports, pool: &mut Region) -> Result<Vec<Tried>, String
             let search = (exports.search)(from, size, words, length, RULE, LIMIT, 1, 1);
             let full = (exports.full)(from, size, words, length, LIMIT, 1, 1);
             let book = std::ptr::null_mut();
-            (search, full, (exports.add)(book, 0, 0, from, size, words, length, RULE, LIMIT, 1, 1))
+            (search, full, (exports.add)(ARBITER, book, 0, 0, from, size, words, length, RULE, LIMIT, 1, 1))
         };
         pool.unchanged(0)?;
         tried.extend([

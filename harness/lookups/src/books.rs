@@ -1,7 +1,8 @@
-//! Books in which no question's pair is held, so that a lookup goes through all of their entries.
+//! Books in which no question's pair is held for who asks, so that a lookup goes through all of their entries.
 
-pub use calls::book::ENTRY;
+use calls::book::{entry, ENTRY, MARK};
 use calls::record::LENGTH;
+use calls::Who;
 use oracle::generate::{reached, Random};
 use oracle::load;
 
@@ -11,9 +12,10 @@ const QUESTIONS: usize = 4;
 
 pub type Record = [u8; LENGTH];
 
-/// The pair that is looked up.
+/// Who looks up which pair.
 #[derive(Clone, Copy)]
 pub struct Question {
+    pub who: Who,
     pub record: Record,
     pub rule: u64,
 }
@@ -41,26 +43,31 @@ enum Alike {
     Back,
     /// The whole record, under another rule.
     Record,
+    /// The pair, but it is not published. All others are.
+    Pair,
 }
 
 pub struct Kind {
     pub name: &'static str,
     pub entries: usize,
     alike: Alike,
+    who: Who,
 }
 
-const fn kind(name: &'static str, entries: usize, alike: Alike) -> Kind {
-    Kind { name, entries, alike }
+const fn kind(name: &'static str, entries: usize, alike: Alike, who: Who) -> Kind {
+    Kind { name, entries, alike, who }
 }
 
-pub const KINDS: [Kind; 7] = [
-    kind("no entries", 0, Alike::Nothing),
-    kind("positions of random play", 50, Alike::Nothing),
-    kind("positions of random play", 5_000, Alike::Nothing),
-    kind("positions of random play", 500_000, Alike::Nothing),
-    kind("records that differ in their last byte alone", 5_000, Alike::Front),
-    kind("records that differ in their first byte alone", 5_000, Alike::Back),
-    kind("the record itself under other rules", 5_000, Alike::Record),
+pub const KINDS: [Kind; 9] = [
+    kind("no entries", 0, Alike::Nothing, Who::Arbiter),
+    kind("positions of random play", 50, Alike::Nothing, Who::Arbiter),
+    kind("positions of random play", 5_000, Alike::Nothing, Who::Arbiter),
+    kind("positions of random play", 500_000, Alike::Nothing, Who::Arbiter),
+    kind("records that differ in their last byte alone", 5_000, Alike::Front, Who::Arbiter),
+    kind("records that differ in their first byte alone", 5_000, Alike::Back, Who::Arbiter),
+    kind("the record itself under other rules", 5_000, Alike::Record, Who::Arbiter),
+    kind("positions of random play, by a trainer", 5_000, Alike::Nothing, Who::Trainer),
+    kind("the pair itself, not published, by a trainer", 5_000, Alike::Pair, Who::Trainer),
 ];
 
 impl Kind {
@@ -68,31 +75,24 @@ impl Kind {
     pub fn book(&self) -> Book {
         let mut random = Random::new(SEED);
         let number = if matches!(self.alike, Alike::Nothing) { QUESTIONS } else { 1 };
-        let question = |_| Question { record: position(&mut random), rule: random.below(3) };
+        let question = |_| Question { who: self.who, record: position(&mut random), rule: random.below(3) };
         let questions: Vec<Question> = (0..number).map(question).collect();
         let bytes = (0..self.entries).flat_map(|_| self.entry(&mut random, &questions)).collect();
         Book { bytes, questions }
     }
 
-    fn entry(&self, random: &mut Random, questions: &[Question]) -> [u8; ENTRY] {
-        let Question { mut record, rule } = questions[0];
-        let mut other_rule = random.below(3);
+    fn entry(&self, random: &mut Random, questions: &[Question]) -> Vec<u8> {
+        let Question { mut record, rule, .. } = questions[0];
+        let (mut its_rule, mut low) = (random.below(3), MARK);
         match self.alike {
             Alike::Nothing => record = unasked(random, questions),
             Alike::Front => record[LENGTH - 1] ^= change(random),
             Alike::Back => record[0] ^= change(random),
-            Alike::Record => other_rule = (rule + 1 + random.below(2)) % 3,
+            Alike::Record => its_rule = (rule + 1 + random.below(2)) % 3,
+            Alike::Pair => (its_rule, low) = (rule, 0),
         }
-        entry(&record, other_rule, 1 + random.below(2))
+        entry(&record, its_rule, 1 + random.below(2) as u8, low)
     }
-}
-
-/// An entry of these.
-pub fn entry(record: &Record, rule: u64, verdict: u64) -> [u8; ENTRY] {
-    let mut bytes = [0; ENTRY];
-    bytes[..LENGTH].copy_from_slice(record);
-    bytes[LENGTH] = (rule << 6 | verdict << 4) as u8;
-    bytes
 }
 
 /// A position of random play after 30 to 60 moves, or at the game's end.

@@ -1,7 +1,7 @@
 //! Times lookups in books of verdicts, by the proved library and by a plain loop in C over the same entries, in one
-//! process, and counts their instructions where callgrind is installed. In no book is the pair held, so every entry is
-//! gone through. The library's lookup checks the record, the rule and the book before that; the loop checks nothing.
-//! Prints tables for docs/SPEED.md; fails if an answer differs.
+//! process, and counts their instructions where callgrind is installed. In no book is the pair held for who asks, an
+//! arbiter or a trainer, so every entry is gone through. The library's lookup checks the record, the rule and the book
+//! before that; the loop checks nothing. Prints tables for docs/SPEED.md; fails if an answer differs.
 //!
 //! ```text
 //! lookups [ROUNDS]           both tables

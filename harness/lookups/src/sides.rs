@@ -5,7 +5,7 @@ use std::hint::black_box;
 use uttt::ffi;
 
 extern "C" {
-    fn plain_lookup(book: *const u8, count: u64, record: *const u8, rule: u64) -> u32;
+    fn plain_lookup(trainer: bool, book: *const u8, count: u64, record: *const u8, rule: u64) -> u32;
 }
 
 #[derive(Clone, Copy)]
@@ -16,8 +16,8 @@ pub enum Side {
 
 pub const SIDES: [Side; 2] = [Side::Ours, Side::Plain];
 
-/// The verdict found in the first `count` entries: 1, 2, or 0 if the pair is not held. Ours is refused where the loop
-/// is not: if the record is no position.
+/// The verdict found in the first `count` entries: 1, 2, or 0 if the pair is not held for who asks. Ours is refused
+/// where the loop is not: if the record is no position.
 pub fn lookup(side: Side, bytes: &[u8], count: u64, q: &Question) -> Result<u32, String> {
     match side {
         Side::Ours => {
@@ -33,13 +33,14 @@ pub fn lookup(side: Side, bytes: &[u8], count: u64, q: &Question) -> Result<u32,
 }
 
 fn ours(bytes: &[u8], count: u64, q: &Question) -> ffi::LookupAnswer {
+    let (trainer, at, length) = (q.who.is_trainer(), bytes.as_ptr(), bytes.len());
     // SAFETY: pointers and lengths belong together, and nothing is written.
-    unsafe { ffi::uttt_book_lookup(bytes.as_ptr(), bytes.len(), count, q.record.as_ptr(), q.record.len(), q.rule) }
+    unsafe { ffi::uttt_book_lookup(trainer, at, length, count, q.record.as_ptr(), q.record.len(), q.rule) }
 }
 
 fn plain(bytes: &[u8], count: u64, q: &Question) -> u32 {
     // SAFETY: the loop reads 22 bytes for each entry counted, which no caller here sets higher, and 21 of the record.
-    unsafe { plain_lookup(bytes.as_ptr(), count, q.record.as_ptr(), q.rule) }
+    unsafe { plain_lookup(q.who.is_trainer(), bytes.as_ptr(), count, q.record.as_ptr(), q.rule) }
 }
 
 /// Asks every question of the book, so many times one after the other.

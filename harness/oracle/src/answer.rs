@@ -1,10 +1,10 @@
 //! The calls (MANUAL, Calls), answered by the original: replay by `make_move`, legal moves by
 //! `all_moves` (never on a finished position, where there are none: MANUAL, The game), search by
-//! `Prover::prove`. Refusals 1 to 10 and 16 to 18 come from `calls::table`. The original has no full verdict,
+//! `Prover::prove`. Refusals 1 to 10 and 16 to 19 come from `calls::table`. The original has no full verdict,
 //! no referee and no agreed opening: the first is two of its searches and a name of our own (`full`), the
 //! others are our own exhaustive value (`value`) and our own reading of two lists (`opening`) over its moves.
-//! Nor has it a book: lookup and add are written a second time here, plainly and apart from the proved code
-//! (`book_call`), over the book of `calls::book` and the original's searches (`search`).
+//! Nor has it a book: lookup, add and publish are written a second time here, plainly and apart from the proved
+//! code (`book_call`), over the book of `calls::book` and the original's searches (`search`).
 
 use crate::game::{Game, GameState, Move, MoveError, Player};
 use crate::load;
@@ -13,7 +13,7 @@ use crate::prove::Evaluation;
 use calls::line::Verdict;
 use calls::record::LENGTH;
 use calls::table::{self, MOVES_ROOM, RECORD_ROOM};
-use calls::{Answer, Book, BookCall, Call, Fields, FullVerdict};
+use calls::{Answer, Book, BookCall, Call, Fields, FullVerdict, Who};
 
 /// Answers any call; `book` is what the line before left, and is changed by a book's lines alone.
 pub fn answer(call: &Call, book: &mut Book) -> Answer {
@@ -53,12 +53,17 @@ pub fn answer(call: &Call, book: &mut Book) -> Answer {
 
 fn book_call(call: &BookCall, book: &mut Book) -> Answer {
     match call {
-        BookCall::Lookup { record, rule } => {
-            refused_or(table::lookup_refusal(book, record, *rule), || Answer::Found(book.held(record, *rule)))
+        BookCall::Lookup { who, record, rule } => {
+            refused_or(table::lookup_refusal(book, record, *rule), || Answer::Found(book.held(*who, record, *rule)))
         }
-        BookCall::Add { record, rule, pool, limit, budget, interval } => {
-            refused_or(table::add_refusal(book, record, *rule, *pool, *budget, *interval), || {
-                let verdict = book.held(record, *rule).unwrap_or_else(|| {
+        BookCall::Publish { who, record, rule } => {
+            refused_or(table::publish_refusal(book, *who, record, *rule), || {
+                Answer::Published(book.publish(record, *rule))
+            })
+        }
+        BookCall::Add { who, record, rule, pool, limit, budget, interval } => {
+            refused_or(table::add_refusal(book, *who, record, *rule, *pool, *budget, *interval), || {
+                let verdict = book.held(Who::Arbiter, record, *rule).unwrap_or_else(|| {
                     let found = search(accepted(record), *rule, *pool, *limit, *budget, *interval).verdict;
                     book.store(record, *rule, found);
                     found

@@ -1,39 +1,29 @@
 //! Lists of a book's lines: those of cases.txt and the generator's hold together, and reach every answer.
 
+mod steps;
+
+use calls::book::{ENTRY, MARK};
 use calls::line::Verdict;
-use calls::{table, Answer, Book, BookCall, Call, Kind};
-use oracle::generate::{book, list, Random};
+use calls::{table, Answer, Book, BookCall, Call, Kind, Who};
+use oracle::generate::book;
 use std::collections::{BTreeMap, BTreeSet};
-
-/// The book's line, if the call is one.
-fn lines(call: &Call) -> Option<&BookCall> {
-    match call {
-        Call::Book(line) => Some(line),
-        _ => None,
-    }
-}
-
-fn lists(count: usize) -> Vec<Vec<Call>> {
-    let mut random = Random::new(1);
-    (0..count).map(|_| list(&mut random, Kind::Book)).collect()
-}
+use steps::{line, lists, steps, Step};
 
 #[test]
 fn every_list_begins_with_a_book_and_ends_with_its_bytes() {
-    let cases = oracle::cases::lists();
-    let of_cases: Vec<Vec<Call>> = cases.into_iter().filter(|list| list[0].kind() == Kind::Book).collect();
+    let cases = oracle::cases::lists().into_iter().filter(|list| list[0].kind() == Kind::Book);
+    let of_cases: Vec<Vec<BookCall>> = cases.map(|list| list.into_iter().map(line).collect()).collect();
     assert!(of_cases.len() > 15, "only {} lists are among the cases", of_cases.len());
-    for list in of_cases.into_iter().chain(lists(2_000)) {
-        let all: Vec<&BookCall> = list.iter().map(|call| lines(call).expect("a book's line")).collect();
-        assert!(all[0].begins_a_list() && !all[1..].iter().any(|line| line.begins_a_list()), "{}", list[0]);
-        assert_eq!(all.last(), Some(&&BookCall::Dump));
+    for all in of_cases.into_iter().chain(lists(2_000)) {
+        assert!(all[0].begins_a_list() && !all[1..].iter().any(|line| line.begins_a_list()), "{}", all[0]);
+        assert_eq!(all.last(), Some(&BookCall::Dump));
         assert!((3..=30).contains(&all.len()), "{} lines", all.len());
     }
 }
 
 #[test]
 fn no_book_is_larger_than_said() {
-    let most = lists(4_000).into_iter().filter_map(|list| match lines(&list[0])? {
+    let most = lists(4_000).filter_map(|list| match &list[0] {
         BookCall::New { entries } => Some(*entries as u64),
         BookCall::Set(book) => Some(book.entries()),
         _ => None,
@@ -42,22 +32,17 @@ fn no_book_is_larger_than_said() {
     assert!((40..=book::MOST_ENTRIES as u64).contains(&most), "{}", most);
 }
 
-/// Each answer of add and lookup and how often it comes; of an add, whether it stored.
+/// Each call with who calls and its answer, and how often it comes; of an add, whether it stored.
 fn outcomes(count: usize) -> BTreeMap<String, usize> {
     let mut seen = BTreeMap::new();
-    for list in lists(count) {
-        let mut book = Book::default();
-        for call in &list {
-            let before = book.count;
-            let outcome = match (oracle::answer(call, &mut book), call) {
-                (Answer::Refused { number, .. }, Call::Book(BookCall::Add { .. })) => format!("add {}", number),
-                (Answer::Refused { number, .. }, _) => format!("lookup {}", number),
-                (Answer::Added { verdict, count }, _) => format!("add {:?} {}", verdict, count - before),
-                (Answer::Found(found), _) => format!("lookup {:?}", found),
-                _ => continue,
-            };
-            *seen.entry(outcome).or_default() += 1;
-        }
+    for Step { line, before, answer, .. } in steps(count) {
+        let answer = match answer {
+            Answer::Ok | Answer::Book(_) => continue,
+            Answer::Refused { number, .. } => number.to_string(),
+            Answer::Added { verdict, count } => format!("{:?} {}", verdict, count - before.count),
+            answer => answer.to_string(),
+        };
+        *seen.entry(format!("{} {}", line.name(), answer)).or_default() += 1;
     }
     seen
 }
@@ -65,29 +50,42 @@ fn outcomes(count: usize) -> BTreeMap<String, usize> {
 #[test]
 fn every_answer_is_reached() {
     let seen = outcomes(4_000);
-    let refused = (1..=6).chain([8, 9, 10, 17, 18]).map(|number| format!("add {}", number));
-    let lookups = (1..=6).chain([10, 17]).map(|number| format!("lookup {}", number));
-    let added = ["True 1", "True 0", "False 1", "False 0", "Unknown 0"].map(|text| format!("add {}", text));
-    let found = ["Some(True)", "Some(False)", "None"].map(|text| format!("lookup {}", text));
-    let due: BTreeSet<String> = refused.chain(lookups).chain(added).chain(found).collect();
+    let of_record = ["1", "2", "3", "4", "5", "6"];
+    let added = ["8", "9", "10", "17", "18", "True 1", "True 0", "False 1", "False 0", "Unknown 0"];
+    let found = ["10", "17", "True", "False", "notheld"];
+    let due: [(&str, &[&[&str]]); 6] = [
+        ("add arbiter", &[&of_record, &added]),
+        ("add trainer", &[&["19"]]),
+        ("lookup arbiter", &[&of_record, &found]),
+        ("lookup trainer", &[&of_record, &found]),
+        ("publish arbiter", &[&of_record, &["10", "17", "published", "notheld"]]),
+        ("publish trainer", &[&["19"]]),
+    ];
+    let each = |(call, answers): (&'static str, &[&[&'static str]])| {
+        answers.concat().into_iter().map(move |answer| format!("{} {}", call, answer)).collect::<Vec<String>>()
+    };
+    let due: BTreeSet<String> = due.into_iter().flat_map(each).collect();
     assert_eq!(seen.keys().cloned().collect::<BTreeSet<String>>(), due, "{:?}", seen);
-    let often = |what: &str| seen[what] > 500;
-    assert!(["add 17", "add 18", "add True 1", "add True 0", "add False 0"].into_iter().all(often), "{:?}", seen);
+    let often = ["17", "18", "True 1", "True 0", "False 0"].map(|answer| format!("add arbiter {}", answer));
+    assert!(often.iter().all(|what| seen[what] > 500), "{:?}", seen);
 }
 
 /// From an empty book every verdict once stored is found, and a verdict found is that of a search with ample bounds.
 #[test]
 fn what_is_stored_is_found() {
     let mut found = 0;
-    for list in lists(1_500).iter().filter(|list| matches!(lines(&list[0]), Some(BookCall::New { .. }))) {
+    for list in lists(1_500).filter(|list| matches!(list[0], BookCall::New { .. })) {
         let mut book = Book::default();
         let mut stored: Vec<(Vec<u8>, u64, Verdict)> = Vec::new();
-        for call in list {
-            let answer = oracle::answer(call, &mut book);
-            if let (Call::Book(BookCall::Add { record, rule, .. }), Answer::Added { verdict, .. }) = (call, answer) {
-                stored.extend((verdict != Verdict::Unknown).then(|| (record.clone(), *rule, verdict)));
+        for line in list {
+            let answer = oracle::answer(&Call::Book(line.clone()), &mut book);
+            if let (BookCall::Add { record, rule, .. }, Answer::Added { verdict, .. }) = (line, answer) {
+                stored.extend((verdict != Verdict::Unknown).then_some((record, rule, verdict)));
             }
-            assert!(stored.iter().all(|(record, rule, verdict)| book.held(record, *rule) == Some(*verdict)));
+            let is_held = |(record, rule, verdict): &(Vec<u8>, u64, Verdict)| {
+                book.held(Who::Arbiter, record, *rule) == Some(*verdict)
+            };
+            assert!(stored.iter().all(is_held));
         }
         for (record, rule, verdict) in stored {
             let whole = record.as_slice().try_into().expect("an accepted record");
@@ -98,22 +96,33 @@ fn what_is_stored_is_found() {
     assert!(found > 1_000, "only {} verdicts were found", found);
 }
 
-/// Refused calls, lookups, held pairs and Unknown leave the book as it was.
+/// Refused calls, lookups, held pairs and Unknown leave the book as it was; a publish sets one mark.
 #[test]
-fn only_a_stored_verdict_changes_the_book() {
-    for list in lists(1_000) {
-        let mut book = Book::default();
-        for call in &list {
-            let before = book.clone();
-            let answer = oracle::answer(call, &mut book);
-            let Some(BookCall::Add { record, rule, pool, budget, interval, .. }) = lines(call) else {
-                assert!(book == before || lines(call).is_some_and(|line| line.begins_a_list()));
-                continue;
-            };
-            let refused = table::add_refusal(&before, record, *rule, *pool, *budget, *interval).is_some();
-            let unknown = matches!(answer, Answer::Added { verdict: Verdict::Unknown, .. });
-            let kept = refused || unknown || before.held(record, *rule).is_some();
-            assert_eq!(book == before, kept, "{}", call);
+fn only_a_stored_verdict_or_a_mark_changes_the_book() {
+    for Step { line, before, answer, after } in steps(1_000) {
+        match &line {
+            BookCall::New { .. } | BookCall::Set(_) => (),
+            BookCall::Add { who, record, rule, pool, budget, interval, .. } => {
+                let refused = table::add_refusal(&before, *who, record, *rule, *pool, *budget, *interval).is_some();
+                let unknown = matches!(answer, Answer::Added { verdict: Verdict::Unknown, .. });
+                let kept = refused || unknown || before.held(Who::Arbiter, record, *rule).is_some();
+                assert_eq!(after == before, kept, "{}", line);
+            }
+            BookCall::Publish { record, rule, .. } if answer == Answer::Published(true) => {
+                assert_eq!(after, marked(&before, record, *rule), "{}", line)
+            }
+            BookCall::Publish { .. } | BookCall::Lookup { .. } | BookCall::Dump => {
+                assert_eq!(after, before, "{}", line)
+            }
         }
     }
+}
+
+/// The book with a mark in the last entry of its shortest beginning that holds the pair.
+fn marked(book: &Book, record: &[u8], rule: u64) -> Book {
+    let holds = |count: &u64| Book { count: *count, ..book.clone() }.held(Who::Arbiter, record, rule).is_some();
+    let count = (0..=book.count).find(holds).expect("the pair is held");
+    let mut marked = book.clone();
+    marked.bytes[ENTRY * count as usize - 1] |= MARK;
+    marked
 }

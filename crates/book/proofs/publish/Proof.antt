@@ -25,6 +25,14 @@ first-requires c κs =
     let start = checked .before .before .before .before in
     publish-scans _ _ _ (bookOf (start .args .book .now) (start .args .count)) (checked .check-publish .ensures) (passed .if1 .left)
 
+mul-if2 : tie.Need-mul-if2
+mul-if2 c =
+    let passed = c .before .before in
+    let checked = passed .before in
+    let start = checked .before .before .before .before in
+    let within = publish-scans _ _ _ (bookOf (start .args .book .now) (start .args .count)) (checked .check-publish .ensures) (passed .if1 .left) .1 in
+    search (needs, within)
+
 same-length-2 : tie.Need-same-length-2
 same-length-2 c = search needs
 
@@ -67,6 +75,7 @@ publish-spec =
     same-length
     returns
     first-requires
+    mul-if2
     same-length-2
     returns-2
     mark-requires

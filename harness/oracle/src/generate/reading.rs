@@ -5,10 +5,10 @@ use super::damaged::{any_bytes, damage, Damage};
 use super::positions::{accepted, reached};
 use super::random::Random;
 use crate::load;
-use calls::book::entry;
+use calls::book::{entry, MARK};
 use calls::record::{Position, LENGTH};
 use calls::table::{MOVES_ROOM, RECORD_ROOM};
-use calls::{Book, BookCall, Call};
+use calls::{Book, BookCall, Call, Who};
 
 /// Positions that are changed at every place: of random play after so many moves or at the game's end, and so many
 /// other accepted ones, most of which no game reaches.
@@ -60,20 +60,31 @@ pub fn lists_of(record: &[u8]) -> Vec<Vec<Call>> {
     ]
 }
 
-/// Lookups and an add in a book with entries that are not held for the record, then True and False for it. Under rule 2
-/// there is an entry past the count alone. Of the first 21 each has one bit turned, in another byte.
-fn lines_of_a_book(record: Vec<u8>) -> [BookCall; 4] {
+/// Calls of a book with entries that are not held for the record, then an unpublished True and a published False for
+/// it. Under rule 2 there is an entry past the count alone. Of the first 21 each has one bit turned, in another byte.
+fn lines_of_a_book(record: Vec<u8>) -> [BookCall; 9] {
     let mut whole = record.clone();
     whole.resize(LENGTH, 0);
     let place = whole.iter().map(|byte| usize::from(*byte)).sum::<usize>() % 8;
-    let near = (0..LENGTH).flat_map(|at| entry(&turned(&whole, 8 * at + place), 0, 2, 0));
-    let others = [entry(&whole, 1, 2, 0), entry(&whole, 0, 0, 0), entry(&whole, 0, 3, 0)];
-    let of_record = [entry(&whole, 0, 1, 7), entry(&whole, 0, 2, 0), entry(&whole, 2, 1, 0)];
+    let near = (0..LENGTH).flat_map(|at| entry(&turned(&whole, 8 * at + place), 0, 2, MARK));
+    let others = [entry(&whole, 1, 2, MARK), entry(&whole, 0, 0, MARK), entry(&whole, 0, 3, MARK)];
+    let of_record = [entry(&whole, 0, 1, 6), entry(&whole, 0, 2, MARK), entry(&whole, 2, 1, MARK)];
     let bytes = near.chain(others.concat()).chain(of_record.concat()).collect();
     let book = Book { bytes, count: LENGTH as u64 + 5 };
-    let lookup = |rule| BookCall::Lookup { record: record.clone(), rule };
-    let add = BookCall::Add { record: record.clone(), rule: 0, pool: 1, limit: 0, budget: 0, interval: 1 };
-    [BookCall::Set(book), lookup(0), lookup(2), add]
+    let (record, who) = (|| record.clone(), Who::Arbiter);
+    let lookup = |who, rule| BookCall::Lookup { who, record: record(), rule };
+    let publish = |rule| BookCall::Publish { who, record: record(), rule };
+    [
+        BookCall::Set(book),
+        lookup(Who::Arbiter, 0),
+        lookup(Who::Arbiter, 2),
+        lookup(Who::Trainer, 0),
+        lookup(Who::Trainer, 2),
+        BookCall::Add { who, record: record(), rule: 0, pool: 1, limit: 0, budget: 0, interval: 1 },
+        publish(2),
+        publish(0),
+        lookup(Who::Trainer, 0),
+    ]
 }
 
 /// The record with one bit turned.

@@ -15,6 +15,12 @@ slice-aggregate-is-word c = search needs
 is-word-requires : tie.Need-is-word-requires
 is-word-requires c κs = search needs
 
+slice-aggregate-is-word-2 : tie.Need-slice-aggregate-is-word-2
+slice-aggregate-is-word-2 c = search needs
+
+is-word-requires-2 : tie.Need-is-word-requires-2
+is-word-requires-2 c κs = search needs
+
 returns : tie.Need-returns
 returns c = search needs
 
@@ -64,6 +70,8 @@ call-spec =
     next-word-requires
     slice-aggregate-is-word
     is-word-requires
+    slice-aggregate-is-word-2
+    is-word-requires-2
     returns
     slice-aggregate-read-bytes
     read-bytes-requires
