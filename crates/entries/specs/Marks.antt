@@ -6,7 +6,7 @@ use mathlib.Core.List.{List, [], _∷_}
 use Prim.Native.Nat.{ℕ, suc, _/_, _%_, _≤_, _<_}
 use native.Mathlib.Omega.{arith}
 use borrow.Author.Tests.{ltb-true, ltb-false, eq-eqb}
-use lib.Dec.{ltb}
+use lib.Dec.{eqb, ltb}
 use lib.ListN.{length}
 use Rattle.entries.specs.Entries.{Entry, ruleBits, verdictBits, mayRead, holdsRule, holdsPair, answers, firstVerdict, find, place, withMark}
 use Rattle.entries.specs.Buffers.{All}
@@ -23,9 +23,12 @@ module _ (last : ℕ) where
   pub mark-verdict : verdictBits (withMark last) ≡ verdictBits last
   mark-verdict = let q : withMark last / 16 ≡ last / 16 = omega arith in ap (λ n. n % 4) q
 
+  mark-is-1 : eqb (withMark last % 2) 1 ≡ true
+  mark-is-1 = eq-eqb (withMark last % 2) 1 (omega arith)
+
   mark-read : (who : Caller) → mayRead who (withMark last) ≡ true
   mark-read Arbiter = refl
-  mark-read Trainer = eq-eqb (withMark last % 2) 1 (omega arith)
+  mark-read Trainer = search mark-is-1
 
 module _ (P : Entry → Type 0) (s : Entry → Bool) (f : (e : Entry) → P e → P (marked e)) where
   pub all-marked : (es : List Entry) → All P es → All P (markFirst s es)
