@@ -22,7 +22,8 @@
  * not be null, is aligned as uint32_t is, and may not point into a buffer of the call.
  *
  * Threads. The library has no variables: a call reads and writes what it is lent and its own stack alone. Threads may
- * call at once if nothing that one of them writes is used by another.
+ * call at once if nothing that one of them writes is used by another: no lookup while an add or a publish of the same
+ * book runs.
  *
  * Time and stack. No call can be interrupted; the budget bounds a search, the referee takes small endings only, and a
  * lookup, an add or a publish goes through the used entries of its book one after the other. Where it was measured,
@@ -156,17 +157,18 @@ enum uttt_cause {
  * and that adds and publishes alone have written, a verdict is the position's value under the rule. Whether one from
  * elsewhere is true is not checked.
  *
- * Who is calling. The calls of a book begin with trainer: false for an arbiter, true for a trainer. It is taken at its
- * word; the library can't know it. An arbiter looks up, adds and publishes, and reads the first entry that holds the
- * pair, published or not. A trainer may only look up, and reads the first that holds the pair and is published. In a
- * book that was not begun empty these may be two entries, and may contradict each other.
+ * Who is calling. The calls of a book begin with trainer: false for an arbiter, true for a trainer. The library can't
+ * know whether it is so. An arbiter looks up, adds and publishes, and reads the first entry that holds the pair,
+ * published or not. A trainer may only look up, and reads the first that holds the pair and is published. In a book
+ * that did not begin empty these may be two entries, and may contradict each other.
  *
  * What a trainer learns. By calls, of published entries only: two books that pass check 17 and have the same published
  * entries with verdict 1 or 2 (record, rule and verdict, in the same order) answer every lookup of a trainer alike, and
- * add and publish tell a trainer nothing but 19. Two things are not promised. How long a trainer's lookup takes tells
- * how many entries there are, unpublished ones too. And the promise is about calls, not about memory: whoever has the
- * buffer can read the unpublished entries in it. So give trainers the calls, by a program that keeps buffer and count,
- * and not the buffer.
+ * add and publish tell a trainer nothing but 19. Two things are not promised. One is time: a lookup goes through all
+ * used entries, unpublished ones too, and takes longer over one that has the record asked for, so how long it takes can
+ * tell how many entries there are, and that an unpublished one has that record. The other is memory: the promise is
+ * about calls, and whoever has the buffer can read the unpublished entries in it. So give trainers the calls, by a
+ * program that keeps buffer and count, and not the buffer.
  */
 #define UTTT_ENTRY_BYTES 22
 

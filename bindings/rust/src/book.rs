@@ -2,12 +2,13 @@
 
 use crate::{answer, ffi, Pool, Refusal, Rule, Settings, Verdict, ENTRY_BYTES};
 
-/// Who calls a book. It is taken at its word.
+/// Who calls a book. Whether it is so the library can't know.
 ///
 /// By calls a trainer learns of published entries only: two books that pass check 17 and have the same published
 /// entries with a verdict, in the same order, answer every lookup of a trainer alike, and a trainer who adds or
 /// publishes is told [`Refusal::TrainerWrites`] and nothing more. That is about calls, not about memory: whoever has a
-/// [`Book`] can read all of its bytes. Nor is it about time: how long a lookup takes tells how many entries there are.
+/// [`Book`] can read all of its bytes. Nor is it about time: how long a lookup takes can tell how many entries there
+/// are, and that an unpublished one has the record asked for.
 #[derive(Clone, Copy, Debug, PartialEq, Eq, Hash)]
 pub enum Caller {
     /// Looks up, adds and publishes; the first entry that holds a pair counts, published or not.
