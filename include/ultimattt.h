@@ -158,17 +158,17 @@ enum uttt_cause {
  * elsewhere is true is not checked.
  *
  * Who is calling. The calls of a book begin with trainer: false for an arbiter, true for a trainer. The library can't
- * know whether it is so. An arbiter looks up, adds and publishes, and reads the first entry that holds the pair,
+ * check that. An arbiter looks up, adds and publishes, and reads the first entry that holds the pair,
  * published or not. A trainer may only look up, and reads the first that holds the pair and is published. In a book
  * that did not begin empty these may be two entries, and may contradict each other.
  *
  * What a trainer learns. By calls, of published entries only: two books that pass check 17 and have the same published
  * entries with verdict 1 or 2 (record, rule and verdict, in the same order) answer every lookup of a trainer alike, and
- * add and publish tell a trainer nothing but 19. Two things are not promised. One is time: a lookup goes through all
- * used entries, unpublished ones too, and takes longer over one that has the record asked for, so how long it takes can
- * tell how many entries there are, and that an unpublished one has that record. The other is memory: the promise is
- * about calls, and whoever has the buffer can read the unpublished entries in it. So give trainers the calls, by a
- * program that keeps buffer and count, and not the buffer.
+ * add and publish tell a trainer nothing but 19. Two things are not promised. One is time: a lookup goes through the
+ * used entries, unpublished ones too, up to the one that answers, and takes longer over one that has the record asked
+ * for; so how long it takes can tell how many entries there are, and that an unpublished one has that record. The other
+ * is memory: the promise is about calls, and whoever has the buffer can read the unpublished entries in it. So give
+ * trainers the calls, by a program that keeps buffer and count, and not the buffer.
  */
 #define UTTT_ENTRY_BYTES 22
 

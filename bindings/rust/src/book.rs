@@ -2,7 +2,7 @@
 
 use crate::{answer, ffi, Pool, Refusal, Rule, Settings, Verdict, ENTRY_BYTES};
 
-/// Who calls a book. Whether it is so the library can't know.
+/// Who calls a book. The library can't check it.
 ///
 /// By calls a trainer learns of published entries only: two books that pass check 17 and have the same published
 /// entries with a verdict, in the same order, answer every lookup of a trainer alike, and a trainer who adds or
@@ -95,7 +95,8 @@ impl Book {
     /// True or False is kept: it takes the next entry, unpublished. Pool and settings are checked in either case.
     ///
     /// If the book is full and doesn't hold the pair, nothing is searched: [`Refusal::BookFull`]. The record can't be a
-    /// part of the book, which is written: copy an entry's record out before adding it under another rule.
+    /// part of the book, which is written: copy an entry's record out before adding it under another rule. A trainer is
+    /// refused, whatever else is wrong: [`Refusal::TrainerWrites`].
     pub fn add(
         &mut self,
         who: Caller,
@@ -108,7 +109,8 @@ impl Book {
     }
 
     /// Marks the first entry that holds the record and the rule as published; one that is published stays so. `false`
-    /// if there is none: then nothing is written. As with an add, the record can't be a part of the book.
+    /// if there is none: then nothing is written. As with an add, the record can't be a part of the book, and a trainer
+    /// is refused: [`Refusal::TrainerWrites`].
     pub fn publish(&mut self, who: Caller, record: &[u8], rule: Rule) -> Result<bool, Refusal> {
         publish_in(who, &mut self.bytes, self.count, record, rule)
     }

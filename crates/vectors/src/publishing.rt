@@ -31,7 +31,7 @@ fn holds(book: &[u8], place: usize, record: &[u8], rule: u64) -> bool
     }
 }
 
-// Where the last byte of the first used entry of a pair stands; the array's length if there is none.
+// Where the last byte of the first used entry that holds a pair stands; the array's length if there is none.
 fn find_last(book: &[u8], count: u64, record: &[u8], rule: u64) -> usize {
     let mut unseen = count;
     let mut place: usize = 21;
@@ -53,7 +53,7 @@ fn marked(last: u8) -> u8 {
     last / 2 * 2 + 1
 }
 
-// Marks the first used entry of a pair in the book as it should be, if there is one.
+// Marks the first used entry that holds a pair in the book as it should be, if there is one.
 fn put_mark(want: &mut Bytes, count: u64, record: &[u8], rule: u64) {
     let place = find_last(want, count, record, rule);
     if place < want.len() {

@@ -92,7 +92,7 @@ impl Asked {
     }
 
     /// The places of the used entries of the pair that have a verdict.
-    pub unsafe fn held(&self) -> Vec<usize> {
+    pub unsafe fn places_held(&self) -> Vec<usize> {
         self.of_record(|byte| self.is_of_rule(byte) && matches!(byte / 16 % 4, 1 | 2))
     }
 

@@ -22,28 +22,35 @@ const TRAINER: bool = true;
 /// D of the manual.
 const DRAWN: &str = "7AB400AC0054001500054000A8002A000A80054000";
 
-/// What is too long, what is due, and the answer.
+/// What is too long or too large, what is due, and the answer.
 type Tried = (&'static str, (u32, u64), Answered);
 
-/// Tries all; gives how many there were, or none where the system has not so many addresses.
+/// Tries all; gives how many there were, or none where the system has not so many addresses for the long ones. The
+/// counts are tried there too.
 pub fn check(exports: &Exports, seconds: u32) -> Result<Option<usize>, String> {
+    let counts = watch::during("a count over 4294967296", seconds, || large_counts(exports))?;
+    as_due(&counts)?;
     let (Some(mut long), Some(mut pool)) = (Region::new(OVER + LENGTH), Region::new(4 * NODE_WORDS * (OVER + 1)))
     else {
         return Ok(None);
     };
-    let tried = watch::during("a length or a count over 4294967296", seconds, || {
+    let tried = watch::during("a length over 4294967296", seconds, || {
         let parts = [
             long_records(exports, &mut long)?,
             long_lists(exports, &mut long)?,
             long_sheets(exports, &mut long)?,
             long_books(exports, &mut long)?,
-            large_counts(exports)?,
             long_pools(exports, &mut pool)?,
         ];
         Ok::<Vec<Tried>, String>(parts.into_iter().flatten().collect())
     })?;
+    as_due(&tried)?;
+    Ok(Some(counts.len() + tried.len()))
+}
+
+fn as_due(tried: &[Tried]) -> Result<(), String> {
     match tried.iter().find(|(_, due, a)| (a.code, a.index) != *due) {
-        None => Ok(Some(tried.len())),
+        None => Ok(()),
         Some((what, due, a)) => Err(format!("{}: code {} and index {}, not {:?}", what, a.code, a.index, due)),
     }
 }

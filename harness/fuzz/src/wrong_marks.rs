@@ -3,6 +3,7 @@
 
 use crate::book_calls::{add, false_for_three, lookup, publish, Add, Asked};
 use crate::exports::{Exports, LIBRARY};
+use crate::run::{NODE_BYTES, WORD_BYTES};
 use calls::book::{ENTRY, MARK};
 use calls::record::LENGTH;
 use calls::table::{lookup_refusal, record_refusal, search_refusal};
@@ -94,7 +95,7 @@ impl Asked {
 
 impl Add {
     unsafe fn refusal_of_settings(&self) -> Option<u32> {
-        let (nodes, [_, budget, interval]) = (self.k as u64 / 5, self.limits);
+        let (nodes, [_, budget, interval]) = ((self.k / (NODE_BYTES / WORD_BYTES)) as u64, self.limits);
         search_refusal(&self.asked.record(), self.asked.rule, nodes, budget, interval)
     }
 }
@@ -131,7 +132,7 @@ macro_rules! add_19 {
 }
 
 trainer!(trainer_all, |lent| lent.by_an_arbiter().lookup());
-trainer!(trainer_stops, |lent| match lent.held().first() {
+trainer!(trainer_stops, |lent| match lent.places_held().first() {
     Some(at) if !lent.is_broken() && !lent.is_published(*at) => ffi::LookupAnswer { verdict: 0, ..lent.lookup() },
     _ => lent.lookup(),
 });
@@ -147,25 +148,26 @@ trainer!(trainer_past_count, |lent| lent.counting_all().lookup());
 trainer!(trainer_refused, |_lent| ffi::LookupAnswer { code: 19, index: 0, verdict: 0 });
 lookup!(arbiter_published, |lent| lent.by_a_trainer().lookup());
 
-publish!(publish_last, |lent| lent.publish_otherwise(lent.held().last(), mark));
-publish!(publish_second, |lent| lent.publish_otherwise(lent.held().get(1), mark));
-publish!(publish_every, |lent| lent.publish_otherwise(&lent.held(), mark));
+publish!(publish_last, |lent| lent.publish_otherwise(lent.places_held().last(), mark));
+publish!(publish_second, |lent| lent.publish_otherwise(lent.places_held().get(1), mark));
+publish!(publish_every, |lent| lent.publish_otherwise(&lent.places_held(), mark));
 publish!(publish_unheld, |lent| {
     let of_pair = lent.of_record(|byte| lent.is_of_rule(byte));
     lent.publish_otherwise(of_pair.first(), mark)
 });
 publish!(publish_any_rule, |lent| lent.publish_otherwise(lent.of_record(|_| true).first(), mark));
 publish!(publish_shown, |lent| {
-    let shown = lent.held().iter().any(|at| lent.is_published(*at));
+    let shown = lent.places_held().iter().any(|at| lent.is_published(*at));
     if shown {
         lent.publish_a_copy()
     } else {
         lent.publish()
     }
 });
-publish!(publish_other_bit, |lent| lent.publish_otherwise(lent.held().first(), |byte| *byte |= 2 * MARK));
-publish!(publish_clears, |lent| lent.publish_otherwise(lent.held().first(), |byte| *byte = *byte / 16 * 16 + MARK));
-publish!(publish_toggles, |lent| lent.publish_otherwise(lent.held().first(), |byte| *byte ^= MARK));
+publish!(publish_other_bit, |lent| lent.publish_otherwise(lent.places_held().first(), |byte| *byte |= 2 * MARK));
+publish!(publish_clears, |lent| lent
+    .publish_otherwise(lent.places_held().first(), |byte| *byte = *byte / 16 * 16 + MARK));
+publish!(publish_toggles, |lent| lent.publish_otherwise(lent.places_held().first(), |byte| *byte ^= MARK));
 publish!(publish_not_held, |lent| {
     let a = lent.publish();
     if let (0, 0, Some(at)) = (a.code, a.published, lent.of_record(|_| true).first()) {
@@ -175,13 +177,13 @@ publish!(publish_not_held, |lent| {
 });
 publish!(publish_past_count, |lent| lent.counting_all().publish());
 publish!(publish_again, |lent| {
-    let set = lent.held().first().is_some_and(|at| lent.is_published(*at));
+    let set = lent.places_held().first().is_some_and(|at| lent.is_published(*at));
     let a = lent.publish();
     ffi::PublishAnswer { published: if set { 0 } else { a.published }, ..a }
 });
 publish!(publish_counts, |lent| {
     let a = lent.publish();
-    let shown = lent.held().iter().filter(|at| lent.is_published(**at)).count();
+    let shown = lent.places_held().iter().filter(|at| lent.is_published(**at)).count();
     ffi::PublishAnswer { published: a.published * shown as u32, ..a }
 });
 publish!(publish_refused, |lent| {

@@ -43,7 +43,7 @@ enum Alike {
     Back,
     /// The whole record, under another rule.
     Record,
-    /// The pair, but it is not published. All others are.
+    /// The pair, unpublished. Entries of the other kinds are published.
     Pair,
 }
 

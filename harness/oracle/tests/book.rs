@@ -13,7 +13,7 @@ use steps::{line, lists, steps, Step};
 fn every_list_begins_with_a_book_and_ends_with_its_bytes() {
     let cases = oracle::cases::lists().into_iter().filter(|list| list[0].kind() == Kind::Book);
     let of_cases: Vec<Vec<BookCall>> = cases.map(|list| list.into_iter().map(line).collect()).collect();
-    assert!(of_cases.len() > 15, "only {} lists are among the cases", of_cases.len());
+    assert!(of_cases.len() > 30, "only {} lists are among the cases", of_cases.len());
     for all in of_cases.into_iter().chain(lists(2_000)) {
         assert!(all[0].begins_a_list() && !all[1..].iter().any(|line| line.begins_a_list()), "{}", all[0]);
         assert_eq!(all.last(), Some(&BookCall::Dump));

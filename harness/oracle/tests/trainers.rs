@@ -74,25 +74,25 @@ fn looked_up(book: &Book, record: &[u8], rule: u64, found: Option<Verdict>) -> T
     let by_an_arbiter = book.held(Who::Arbiter, record, rule);
     let other = found.is_some() && found != by_an_arbiter;
     let past = Book { count: book.entries(), ..book.clone() }.held(Who::Trainer, record, rule);
-    let low = last_bytes(book, record, rule);
+    let last = last_bytes(book, record, rule);
     vec![
         ("a trainer finds the verdict that an arbiter does", found.is_some() && !other),
         ("a trainer finds the other verdict, behind an unpublished one", other),
         ("a trainer finds nothing where an arbiter does", found.is_none() && by_an_arbiter.is_some()),
         ("a trainer finds nothing, for it is past the count", found.is_none() && past.is_some()),
-        ("a trainer passes over a mark without a verdict", low.iter().any(|byte| matches!(byte & 0x31, 0x01 | 0x31))),
+        ("the pair has a mark without a verdict", last.iter().any(|byte| matches!(byte & 0x31, 0x01 | 0x31))),
     ]
 }
 
 /// A publish by an arbiter.
 fn sought(book: &Book, record: &[u8], rule: u64, held: bool) -> Tried {
-    let low = last_bytes(book, record, rule);
-    let with_verdict = low.iter().filter(|byte| matches!(*byte & 0x30, 0x10 | 0x20)).count();
+    let last = last_bytes(book, record, rule);
+    let with_verdict = last.iter().filter(|byte| matches!(*byte & 0x30, 0x10 | 0x20)).count();
     let past = Book { count: book.entries(), ..book.clone() }.held(Who::Arbiter, record, rule);
     vec![
         ("publish has entries to choose from", with_verdict > 1),
-        ("publish leaves bits that nobody looks at", held && low.iter().any(|byte| byte & 0x0E != 0)),
-        ("publish finds entries without a verdict alone", !held && !low.is_empty()),
+        ("publish leaves bits that nobody looks at", held && last.iter().any(|byte| byte & 0x0E != 0)),
+        ("publish finds entries without a verdict alone", !held && !last.is_empty()),
         ("publish finds nothing, for it is past the count", !held && past.is_some()),
     ]
 }

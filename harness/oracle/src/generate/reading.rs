@@ -60,7 +60,7 @@ pub fn lists_of(record: &[u8]) -> Vec<Vec<Call>> {
     ]
 }
 
-/// Calls of a book with entries that are not held for the record, then an unpublished True and a published False for
+/// Calls of a book with entries that don't hold the record, then an unpublished True and a published False for
 /// it. Under rule 2 there is an entry past the count alone. Of the first 21 each has one bit turned, in another byte.
 fn lines_of_a_book(record: Vec<u8>) -> [BookCall; 9] {
     let mut whole = record.clone();
