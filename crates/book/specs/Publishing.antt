@@ -1,4 +1,4 @@
--- The promises of trainers and of publishing. Rests on TrainerStatement, Passing, Changes and the entries' laws.
+-- The promises of trainers and of publishing, and all of the shared book's. Rests on TrainerStatement, Passing, Changes, Kept and the entries' laws.
 use mathlib.Core.Path.{_≡_, refl, sym, ap, _∙_}
 use mathlib.Core.Bool.{Bool, true, false}
 use mathlib.Core.List.{List, [], _∷_}
@@ -26,8 +26,9 @@ use Rattle.entries.specs.declared.Caller.the-variants.{Arbiter, Trainer}
 use Rattle.book.specs.Book.{Book, bookOf, BookOutcome, used, broken, refused, unsearched, lookupRefusal, lookupCall, addRefusal, searchedVerdict, storedIn, addCall}
 use Rattle.book.specs.Book.{publishRefusal, publishCall}
 use Rattle.book.specs.Lists.{Publish}
-use Rattle.book.specs.TrainerStatement.{leaving, TrainerStatement, OneBit, PublishStatement}
+use Rattle.book.specs.TrainerStatement.{leaving, TrainerStatement, OneBit, PublishStatement, SharedBookStatement}
 use Rattle.book.specs.Passing.{Fits, fits-unbroken, LookupPassed, lookup-passed, looked-up, publish-passed, used-stored, fits-stored, fits-marked}
+use Rattle.book.specs.Kept.{book-statement}
 use Rattle.book.specs.Changes.{AddSearches, add-ways, publish-ways, used-marked, as-it-was}
 
 -- two books that check 17 takes alike
@@ -200,3 +201,7 @@ publish-statement who bytes rule B = record {
         → (let i = place (holdsPair bytes rule) (used B) in publishRefusal who bytes rule B ≡ 0 → i < B .count → P (unsearched (bookOf (marking (i * 22) (B .bytes)) (B .count)) 1))
         → P (publishCall who bytes rule B)
     ways P turned missing marks = publish-ways P who bytes rule B turned (λ e l. missing) marks
+
+-- THE BOOK THAT ARBITERS AND TRAINERS SHARE
+pub shared-book : SharedBookStatement
+shared-book = record { trainers = trainer-statement; publishing = publish-statement; lists = book-statement }

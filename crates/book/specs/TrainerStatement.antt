@@ -1,5 +1,5 @@
--- What is promised of trainers, and of publishing, with any book: two records, a clause for each thing that is asked. Rests on Book and on the entries that
--- are published.
+-- What is promised of a book that arbiters and trainers share: of trainers and of publishing, with any book, a clause for each thing that is asked, and of lists of
+-- calls; one record of all. Rests on Book, on the entries that are published and on BookStatement.
 use mathlib.Core.Path.{_≡_}
 use mathlib.Core.Bool.{false}
 use mathlib.Core.List.{List}
@@ -13,6 +13,8 @@ use Rattle.entries.specs.declared.Caller.{Caller}
 use Rattle.entries.specs.declared.Caller.the-variants.{Arbiter, Trainer}
 use Rattle.book.specs.Book.{Book, bookOf, BookOutcome, bookOutcome, used, broken, refused, unsearched, lookupRefusal, lookupCall, addCall}
 use Rattle.book.specs.Book.{publishRefusal, publishCall}
+use Rattle.book.specs.Lists.{BookCall}
+use Rattle.book.specs.BookStatement.{BookStatement}
 
 -- An outcome with another book left: all else that a call tells is the same.
 abbrev pub leaving : Book → BookOutcome → BookOutcome
@@ -60,3 +62,9 @@ pub record PublishStatement (who : Caller) (bytes : List ℕ) (rule : ℕ) (B : 
   pub as-before : let C = publishCall who bytes rule B .left in (asked : List ℕ) (under : ℕ) → lookupCall Arbiter asked under C ≡ leaving C (lookupCall Arbiter asked under B)
   pub others-as-before : let C = publishCall who bytes rule B .left in
       (asked : List ℕ) (under : ℕ) → (asked ≡ bytes → under ≡ rule → ⊥) → lookupCall Trainer asked under C ≡ leaving C (lookupCall Trainer asked under B)
+
+-- All of it: of trainers with any two books, of every publish in any book, and of every list of calls, publishes among them, from an empty book.
+pub record SharedBookStatement : Type 0 where
+  pub trainers : (B C : Book) → TrainerStatement B C
+  pub publishing : (who : Caller) (bytes : List ℕ) (rule : ℕ) (B : Book) → PublishStatement who bytes rule B
+  pub lists : (buffer : List ℕ) (calls : List BookCall) → BookStatement buffer calls
