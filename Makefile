@@ -13,11 +13,12 @@ FUZZ_SECONDS ?= 60
 ROUNDS ?= 5
 LOAD_ROUNDS ?= 25
 LOOKUP_ROUNDS ?= 101
+GAMES_ROUNDS ?= 15
 CARGO = cargo
 BUILD_IN = $(CARGO) build --manifest-path harness/Cargo.toml --offline --locked -j $(JOBS)
 BUILD = $(BUILD_IN) --release
 
-.PHONY: test judge library uttt answers oracle-test fuzz compare bench bench-loads bench-lookups bindings-test examples
+.PHONY: test judge library uttt answers oracle-test fuzz compare bench bench-loads bench-lookups bench-games bindings-test examples
 
 # Every crate proved from nothing, every must-fail edit refused, every program's output as stored. Nothing is printed after rt's last line.
 test:
@@ -79,6 +80,11 @@ bench-loads: $(LOAD_BENCH)
 bench-lookups: library
 	$(BUILD_IN) --profile speed -p lookups
 	harness/target/speed/lookups $(LOOKUP_ROUNDS)
+
+# Eight games judged together beside lone searches with what each game is granted, timed: the tables of games in docs/SPEED.md.
+bench-games: library
+	$(BUILD_IN) --profile speed -p rounds
+	harness/target/speed/rounds $(GAMES_ROUNDS)
 
 # The Rust wrapper's own tests, over the library.
 bindings-test: library

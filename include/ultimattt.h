@@ -3,19 +3,21 @@
  * V calling convention; the archive needs nothing but a C library.
  *
  * Buffers. A buffer is a pointer and a length: bytes for records, moves, outputs and books, 32-bit words for a pool.
- * All of them are the caller's: the library allocates nothing, frees nothing and keeps no pointer after a call. One
- * that is written (output, pool, the book of an add or a publish) may not overlap another buffer of the same call;
- * record and moves are only read, and two lists of moves may be the same memory. What an output or a pool held before
- * decides nothing: neither need be cleared. A pool is aligned as uint32_t is.
+ * Shares are eight 64-bit numbers always, so no length comes with them. All buffers are the caller's: the library
+ * allocates nothing, frees nothing and keeps no pointer after a call. One that is written (output, pool, the book of an
+ * add or a publish) may not overlap another buffer of the same call; records, moves and shares are only read, and two
+ * lists of moves may be the same memory. What an output or a pool held before decides nothing: neither need be cleared.
+ * A pool is aligned as uint32_t is, shares as uint64_t is.
  *
- * Length 0. The pointer is not followed and may be null. A record of length 0 is refused with 1, an output with 7, a
- * pool with 8; no moves is a list like any other, and a book of no bytes is one of no entries. A null pointer with
- * another length is the caller's error.
+ * Length 0. The pointer is not followed and may be null. A record of length 0 is refused with 1, the records of no game
+ * with 20, an output with 7, a pool with 8; no moves is a list like any other, and a book of no bytes is one of no
+ * entries. A null pointer with another length is the caller's error, and so is one for shares.
  *
  * Answers. Read code first. It is 0 (UTTT_OK), or the number of the first check that refuses, in the order in which the
  * call checks (the table below the codes). With a refusal no byte of any buffer is written and every other field is 0
  * but two: index, and the count of an add, which is then the one that came in. So verdict, cause and published mean
- * nothing with a refusal. index is the place, from 0, of the bad move with codes 11 to 15, and 0 elsewhere.
+ * nothing with a refusal. index is the place, from 0, of the bad move with codes 11 to 15, of the game whose record is
+ * refused with codes 2 to 6 of uttt_judge_games, and 0 elsewhere.
  *
  * uttt_agreed_opening returns a length and no struct: its code goes to the uint32_t that the caller lends as number.
  * That is no buffer but the call's answer: it is written always, with a refusal too, and never read. The pointer may
@@ -25,15 +27,16 @@
  * call at once if nothing that one of them writes is used by another: no lookup while an add or a publish of the same
  * book runs.
  *
- * Time and stack. No call can be interrupted; the budget bounds a search, the referee takes small endings only, and a
- * lookup, an add or a publish goes through the used entries of its book one after the other. Where it was measured,
- * each call used less than 12 KiB of stack, some 2 KiB of which the dynamic linker took to look memset up at the first
- * search; pool and budget make no difference to that.
+ * Time and stack. No call can be interrupted; the budget bounds a search, the allowance those of several games, the
+ * referee takes small endings only, and a lookup, an add or a publish goes through the used entries of its book one
+ * after the other. Where it was measured, uttt_judge_games used less than @STACK@ of stack and each other call less
+ * than 12 KiB, some 2 KiB of which the dynamic linker took to look memset up at the first search; pool, budget and
+ * allowance make no difference to that.
  *
  * Proofs. docs/PROMISES.md says what is proved of each call, for every record, move list, pool, book and setting. Of a
- * C caller the proofs assume that every pointer is valid for its length (number for one uint32_t) and aligned, that
- * nothing that is written overlaps anything else of the call, and that a bool is false or true. What stands above about
- * threads, time and stack was measured or read off the archive, not proved.
+ * C caller the proofs assume that every pointer is valid for its length (number for one uint32_t, shares for eight
+ * uint64_t) and aligned, that nothing that is written overlaps anything else of the call, and that a bool is false or
+ * true. What stands above about threads, time and stack was measured or read off the archive, not proved.
  */
 #ifndef ULTIMATTT_H
 #define ULTIMATTT_H
@@ -60,16 +63,16 @@ extern "C" {
 /* code, and the number of uttt_agreed_opening: UTTT_OK or why a call was refused. */
 enum uttt_code {
     UTTT_OK = 0,
-    UTTT_RECORD_LENGTH = 1,     /* the record is not 21 bytes long */
+    UTTT_RECORD_LENGTH = 1,     /* the record is not 21 bytes long; games: the records' length is no multiple of 21 */
     UTTT_RECORD_BITS = 2,       /* a cell of code 3, a target of 9 to 14, or a last bit of 1 */
     UTTT_CELL_COUNTS = 3,       /* as many X as O cells and O to move, or one X more and X to move, or another count */
     UTTT_BOARD_WON_TWICE = 4,   /* a board with lines of both sides */
     UTTT_GAME_WON_WRONGLY = 5,  /* both sides have a line of boards, or the side to move has one */
     UTTT_TARGET_DONE = 6,       /* the target is a won or drawn board */
     UTTT_OUTPUT_SHORT = 7,      /* output below 21 bytes (replay, agreed opening) or below 81 (legal moves) */
-    UTTT_POOL_EMPTY = 8,        /* the pool has less than one node */
+    UTTT_POOL_EMPTY = 8,        /* the pool has less than one node; games: less than one for each */
     UTTT_POOL_TOO_LARGE = 9,    /* the pool has more than 16,777,216 nodes */
-    UTTT_SETTING_RANGE = 10,    /* the rule, the interval or the budget is out of its range */
+    UTTT_SETTING_RANGE = 10,    /* the rule, the interval, the budget, a share or the allowance is out of its range */
     UTTT_OUT_OF_BOUNDS = 11,    /* a move's board or cell is not 0 to 8 */
     UTTT_GAME_OVER = 12,        /* a move after the game's end */
     UTTT_WON_BOARD = 13,        /* a move on a won or drawn board */
@@ -78,7 +81,8 @@ enum uttt_code {
     UTTT_TOO_MANY_EMPTY = 16,   /* referee: over nine empty cells in boards in play */
     UTTT_BOOK_SIZE = 17,        /* the book's length is no multiple of 22, or the count is above its entries */
     UTTT_BOOK_FULL = 18,        /* add: every entry of the book is used, and none holds the pair */
-    UTTT_TRAINER_WRITES = 19    /* add, publish: the caller is a trainer, who may only look up; ahead of all others */
+    UTTT_TRAINER_WRITES = 19,   /* add, publish: the caller is a trainer, who may only look up; ahead of all others */
+    UTTT_GAMES_OR_SHARES = 20   /* games: there is none, or over eight; or their shares sum above the allowance */
 };
 
 /*
@@ -90,9 +94,12 @@ enum uttt_code {
  *   agreed opening   7
  *   search           1 to 6, 8, 9, 10
  *   full verdict     1 to 6, 8, 9, 10 (interval and budget)
+ *   games            1, 20 (number of games), 2 to 6 of the records, 8 (a part), 9 (the whole pool), 10, 20 (shares)
  *   lookup           1 to 6, 10 (rule), 17
  *   add              19, 1 to 6, 8, 9, 10, 17, 18
  *   publish          19, 1 to 6, 10 (rule), 17
+ *
+ * Games checks every record, in their order, for 2 before it checks any for 3, and so on to 6.
  */
 
 /*
@@ -137,15 +144,18 @@ enum uttt_cause {
 
 /*
  * A pool is words of 32 bits, five a node, so 20 bytes: 3,276 nodes are 65,520 bytes; the most, 16,777,216 nodes, are
- * 335,544,320 bytes (320 MiB). Its length is given in words. Up to four words past the last whole node are left alone;
- * after a call that searched the others hold junk.
+ * 335,544,320 bytes (320 MiB). Its length is given in words. Up to four words past the last whole node are left alone,
+ * and with games the nodes past the last part too; after a call that searched the others hold junk.
  */
 #define UTTT_NODE_WORDS 5
 #define UTTT_POOL_MOST 16777216
 
-/* Ranges: budget 0 to the most; interval 1 to the most; limit any number, UINT64_MAX for none. */
+/* Ranges: budget, share, allowance 0 to the most; interval 1 to the most; limit any number, UINT64_MAX for none. */
 #define UTTT_BUDGET_MOST UINT64_C(1000000000000)
 #define UTTT_INTERVAL_MOST 1000000
+
+/* So many games are judged together at most, and so many shares there are always. */
+#define UTTT_GAMES_MOST 8
 
 /*
  * A book keeps verdicts. It is entries of 22 bytes and a count: so many of them, from the front on, are used. The
@@ -218,6 +228,13 @@ struct uttt_full_answer {
     struct uttt_result second; /* under rule 2 */
 };
 
+struct uttt_games_answer {
+    uint32_t code;
+    uint64_t index;                              /* the game whose record is refused with codes 2 to 6, else 0 */
+    uint64_t count;                              /* how many games there are; 0 with a refusal */
+    struct uttt_result results[UTTT_GAMES_MOST]; /* one for each game, in their order; zeros past the count */
+};
+
 struct uttt_lookup_answer {
     uint32_t code;
     uint64_t index;   /* 0 */
@@ -283,6 +300,27 @@ struct uttt_search_answer uttt_search(const uint8_t *record, size_t record_lengt
 struct uttt_full_answer uttt_full_verdict(const uint8_t *record, size_t record_length,
                                           uint32_t *pool, size_t pool_words,
                                           uint64_t limit, uint64_t budget, uint64_t interval);
+
+/*
+ * Judges one to eight games together, under one rule, limit and interval and with one allowance of expansions for all.
+ * records has 21 bytes a game, one record after the other. shares[i] is game i's share of the allowance; together the
+ * games' shares may not be above it. Those past the last game are not read: any number may stand there.
+ *
+ * The pool is cut into one part for each game, game 0's first. All have the same number of whole nodes, as many as the
+ * pool has room for.
+ *
+ * There are two passes. In the first each game in turn is searched up to its share. The allowance less the expansions
+ * of all games so far is what is unspent. In the second, in the same order, each game that its share stopped (cause
+ * UTTT_BUDGET_SPENT) goes on from where it stood with all that is unspent when its turn comes.
+ *
+ * Each result is that of uttt_search with the game's part as pool and, as budget, what the game was granted: its share
+ * or, if it went on, its share and what was unspent then. All games together take no more expansions than the
+ * allowance.
+ */
+struct uttt_games_answer uttt_judge_games(const uint8_t *records, size_t records_length,
+                                          uint32_t *pool, size_t pool_words,
+                                          const uint64_t shares[UTTT_GAMES_MOST],
+                                          uint64_t rule, uint64_t limit, uint64_t allowance, uint64_t interval);
 
 /*
  * Gives the verdict that the book holds for the record and the rule, 0 to 2; to a trainer, that of a published entry.

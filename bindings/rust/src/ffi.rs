@@ -53,6 +53,14 @@ pub struct FullAnswer {
 }
 
 #[repr(C)]
+pub struct GamesAnswer {
+    pub code: u32,
+    pub index: u64,
+    pub count: u64,
+    pub results: [ResultFields; 8],
+}
+
+#[repr(C)]
 pub struct LookupAnswer {
     pub code: u32,
     pub index: u64,
@@ -78,7 +86,7 @@ const _: () = assert!(size_of::<ReplayAnswer>() == 16 && size_of::<MovesAnswer>(
 const _: () = assert!(size_of::<RefereeAnswer>() == 24 && size_of::<ResultFields>() == 64);
 const _: () = assert!(size_of::<SearchAnswer>() == 80 && size_of::<FullAnswer>() == 152);
 const _: () = assert!(size_of::<LookupAnswer>() == 24 && size_of::<AddAnswer>() == 32);
-const _: () = assert!(size_of::<PublishAnswer>() == 24);
+const _: () = assert!(size_of::<PublishAnswer>() == 24 && size_of::<GamesAnswer>() == 536);
 
 extern "C" {
     pub fn uttt_replay(
@@ -129,6 +137,18 @@ extern "C" {
         budget: u64,
         interval: u64,
     ) -> FullAnswer;
+
+    pub fn uttt_judge_games(
+        records: *const u8,
+        records_length: usize,
+        pool: *mut u32,
+        pool_words: usize,
+        shares: *const [u64; 8],
+        rule: u64,
+        limit: u64,
+        allowance: u64,
+        interval: u64,
+    ) -> GamesAnswer;
 
     pub fn uttt_book_lookup(
         trainer: bool,

@@ -17,11 +17,13 @@
 mod answer;
 mod book;
 mod ffi;
+mod games;
 mod pool;
 mod refusal;
 
 pub use answer::{Cause, FullResult, FullVerdict, SearchResult, Verdict};
 pub use book::{add_to, lookup_in, publish_in, Book, Caller};
+pub use games::{judge_games, GamesSettings};
 pub use pool::Pool;
 pub use refusal::Refusal;
 
@@ -35,7 +37,9 @@ pub const ENTRY_BYTES: usize = 22;
 pub const NODE_WORDS: usize = 5;
 /// The most nodes of a pool.
 pub const POOL_MOST: usize = 16_777_216;
-/// The largest budget.
+/// The most games that are judged together.
+pub const GAMES_MOST: usize = 8;
+/// The largest budget, share and allowance.
 pub const BUDGET_MOST: u64 = 1_000_000_000_000;
 /// The largest interval.
 pub const INTERVAL_MOST: u64 = 1_000_000;

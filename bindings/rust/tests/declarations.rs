@@ -3,22 +3,25 @@
 
 use std::collections::BTreeMap;
 use ultimattt::{Cause, Refusal, Rule};
-use ultimattt::{BUDGET_MOST, ENTRY_BYTES, INFINITY, INTERVAL_MOST, MOVES_BYTES, NODE_WORDS, POOL_MOST, RECORD_BYTES};
+use ultimattt::{BUDGET_MOST, ENTRY_BYTES, GAMES_MOST, INFINITY, INTERVAL_MOST};
+use ultimattt::{MOVES_BYTES, NODE_WORDS, POOL_MOST, RECORD_BYTES};
 
 const LIBRARY: &str = concat!(
     include_str!("../../../crates/ultimattt/src/exports.rt"),
     include_str!("../../../crates/ultimattt/src/book_exports.rt"),
+    include_str!("../../../crates/ultimattt/src/games_exports.rt"),
 );
 const WRAPPER: &str = include_str!("../src/ffi.rs");
 const HEADER: &str = include_str!("../../../include/ultimattt.h");
 
 /// Types of C as the wrapper writes them; what holds another comes first.
-const TYPES: [(&str, &str); 15] = [
+const TYPES: [(&str, &str); 16] = [
     ("struct uttt_replay_answer", "ReplayAnswer"),
     ("struct uttt_moves_answer", "MovesAnswer"),
     ("struct uttt_referee_answer", "RefereeAnswer"),
     ("struct uttt_search_answer", "SearchAnswer"),
     ("struct uttt_full_answer", "FullAnswer"),
+    ("struct uttt_games_answer", "GamesAnswer"),
     ("struct uttt_lookup_answer", "LookupAnswer"),
     ("struct uttt_add_answer", "AddAnswer"),
     ("struct uttt_publish_answer", "PublishAnswer"),
@@ -57,10 +60,13 @@ fn blocks<'a>(text: &'a str, key: &str, open: char, close: char) -> Vec<(&'a str
     pieces.filter_map(block).collect()
 }
 
-/// The last word and the type ahead of it: `u64 index`.
-fn c_part(text: &str) -> Option<(&str, &str)> {
+/// The last word and the type ahead of it: `u64 index`. An array's length, which has a name, goes into the type.
+fn c_part(text: &str) -> Option<(&str, String)> {
     let (kind, name) = text.trim().rsplit_once(' ')?;
-    Some((name, kind.trim()))
+    let Some((array, length)) = name.split_once("[UTTT_") else {
+        return Some((name, kind.trim().to_string()));
+    };
+    Some((array, format!("[{}; {}]", kind.trim(), number(length.trim_end_matches(']')))))
 }
 
 fn rust_part(text: &str) -> Option<(&str, &str)> {
@@ -84,6 +90,7 @@ fn c_structs(text: &str) -> Declared {
         "ResultFields",
         "SearchAnswer",
         "FullAnswer",
+        "GamesAnswer",
         "LookupAnswer",
         "AddAnswer",
         "PublishAnswer",
@@ -96,13 +103,14 @@ fn c_structs(text: &str) -> Declared {
     names.iter().map(|name| (name.to_string(), fields(name))).collect()
 }
 
-/// A type of the library as C sees it: a slice is a pointer and a length, a lent number a pointer.
+/// A type of the library as C sees it: a slice is a pointer and a length, a lent number or array a pointer.
 fn passed(kind: &str) -> Vec<String> {
     let (pointer, of) = match kind {
         "&[u8]" => ("*const", "u8"),
         "&mut [u8]" => ("*mut", "u8"),
         "&mut [u32]" => ("*mut", "u32"),
         "&mut u32" => return vec!["*mut u32".to_string()],
+        "&[u64; 8]" => return vec!["*const [u64; 8]".to_string()],
         _ => return vec![kind.to_string()],
     };
     vec![format!("{pointer} {of}"), "usize".to_string()]
@@ -119,13 +127,18 @@ fn rust_functions(text: &str, key: &str) -> Declared {
     declared.collect()
 }
 
+/// The types of a prototype's parameters. An array among them is lent.
+fn c_parameters(text: &str) -> Vec<String> {
+    text.split(',').filter_map(c_part).map(|(_, kind)| kind.replace("[const ", "*const [")).collect()
+}
+
 fn c_functions(text: &str) -> Declared {
     let prototypes = text.split(';').filter_map(|piece| piece.trim().strip_suffix(')'));
     let declared = prototypes.filter_map(|piece| {
         let (head, inside) = piece.split_once('(')?;
         let (name, answer) = c_part(head.lines().last()?)?;
-        let mut kinds: Vec<String> = inside.split(',').filter_map(c_part).map(|(_, k)| k.to_string()).collect();
-        kinds.push(answer.to_string());
+        let mut kinds = c_parameters(inside);
+        kinds.push(answer);
         Some((name.to_string(), kinds))
     });
     declared.collect()
@@ -134,7 +147,7 @@ fn c_functions(text: &str) -> Declared {
 #[test]
 fn structs() {
     let library = rust_structs(LIBRARY);
-    assert_eq!(library.len(), 9);
+    assert_eq!(library.len(), 10);
     assert_eq!(rust_structs(WRAPPER), library);
     assert_eq!(c_structs(&header()), library);
 }
@@ -142,7 +155,7 @@ fn structs() {
 #[test]
 fn functions() {
     let library = rust_functions(LIBRARY, "pub extern \"C\" fn ");
-    assert_eq!(library.len(), 9);
+    assert_eq!(library.len(), 10);
     assert_eq!(rust_functions(WRAPPER, "pub fn "), library);
     assert_eq!(c_functions(&header()), library);
 }
@@ -178,6 +191,8 @@ fn refusals() {
         ("BOOK_SIZE", Refusal::BookSize),
         ("BOOK_FULL", Refusal::BookFull),
         ("TRAINER_WRITES", Refusal::TrainerWrites),
+        ("GAMES_OR_SHARES", Refusal::GameCount),
+        ("GAMES_OR_SHARES", Refusal::SharesOverAllowance),
     ];
     for (name, refusal) in named {
         assert_eq!(number(name), u64::from(refusal.number()), "{name}");
@@ -197,8 +212,9 @@ fn verdicts_causes_and_rules() {
 
 #[test]
 fn sizes_and_ranges() {
-    let sizes = [RECORD_BYTES, MOVES_BYTES, ENTRY_BYTES, NODE_WORDS, POOL_MOST].map(|n| n as u64);
-    assert_eq!(["RECORD_BYTES", "MOVES_BYTES", "ENTRY_BYTES", "NODE_WORDS", "POOL_MOST"].map(number), sizes);
+    let sizes = [RECORD_BYTES, MOVES_BYTES, ENTRY_BYTES, NODE_WORDS, POOL_MOST, GAMES_MOST].map(|n| n as u64);
+    let names = ["RECORD_BYTES", "MOVES_BYTES", "ENTRY_BYTES", "NODE_WORDS", "POOL_MOST", "GAMES_MOST"];
+    assert_eq!(names.map(number), sizes);
     let ends = [BUDGET_MOST, INTERVAL_MOST, INFINITY.into()];
     assert_eq!(["BUDGET_MOST", "INTERVAL_MOST", "INFINITY"].map(number), ends);
 }

@@ -2,13 +2,8 @@
 
 mod common;
 
-/// The calls themselves, for rules that the wrapper has no name for.
-#[allow(dead_code)]
-#[path = "../src/ffi.rs"]
-mod ffi;
-
 use common::book::{entry, publish, published, seen, used, with_low, FALSE, FILL, MARK, TRUE};
-use common::{d, refused_records, w, E, FREE_CHOICE, RULES};
+use common::{d, ffi, refused_records, w, E, FREE_CHOICE, RULES};
 use ultimattt::Caller::{Arbiter, Trainer};
 use ultimattt::{publish_in, Book, Rule, ENTRY_BYTES};
 

@@ -2,9 +2,12 @@
 
 mod common;
 
-use common::{d, pool, w, x_to_move, E, FREE_CHOICE, O, X};
+use common::games::shared;
+use common::{d, pool, refused_records, w, x_to_move, E, FREE_CHOICE, O, X};
 use ultimattt::Caller::{Arbiter, Trainer};
-use ultimattt::{agreed_opening_into, full_verdict, legal_moves_into, referee, replay, replay_into, search};
+use ultimattt::{
+    agreed_opening_into, full_verdict, judge_games, legal_moves_into, referee, replay, replay_into, search,
+};
 use ultimattt::{Book, Pool, Refusal, Rule, Settings, BUDGET_MOST, INTERVAL_MOST, NODE_WORDS, POOL_MOST};
 
 fn refused<T: std::fmt::Debug>(answer: Result<T, Refusal>, refusal: Refusal, number: u32, words: &str) {
@@ -23,8 +26,8 @@ fn searched(words: usize, settings: Settings) -> Result<String, Refusal> {
 
 #[test]
 fn records() {
-    refused(replay(&E[..20], &[]), Refusal::RecordLength, 1, "the record is not 21 bytes long");
-    refused(replay(&[], &[]), Refusal::RecordLength, 1, "the record is not 21 bytes long");
+    refused(replay(&E[..20], &[]), Refusal::RecordLength, 1, "a record is not 21 bytes long");
+    refused(replay(&[], &[]), Refusal::RecordLength, 1, "a record is not 21 bytes long");
     let bits = "the record has a cell of code 3, a target of 9 to 14, or a last bit of 1";
     refused(replay(&x_to_move(FREE_CHOICE, &[(&[0], &[0], 3)]), &[]), Refusal::RecordBits, 2, bits);
     refused(replay(&x_to_move(9, &[]), &[]), Refusal::RecordBits, 2, bits);
@@ -54,7 +57,7 @@ fn outputs() {
 
 #[test]
 fn pools() {
-    let none = "the pool has no room for a node, which takes five words";
+    let none = "the pool has no room for one node a game; a node takes five words";
     refused(Pool::new(0), Refusal::PoolEmpty, 8, none);
     refused(searched(0, Settings::default()), Refusal::PoolEmpty, 8, none);
     refused(searched(NODE_WORDS - 1, Settings::default()), Refusal::PoolEmpty, 8, none);
@@ -66,7 +69,9 @@ fn pools() {
 
 #[test]
 fn settings() {
-    let words = "the rule is over 2, the interval is not 1 to 1,000,000, or the budget is over 1,000,000,000,000";
+    let words =
+        "the rule is over 2, the interval is not 1 to 1,000,000, or the budget, a share or the allowance is over \
+                 1,000,000,000,000";
     let usual = Settings::default();
     for interval in [0, INTERVAL_MOST + 1] {
         refused(searched(30, Settings { interval, ..usual }), Refusal::SettingRange, 10, words);
@@ -122,13 +127,36 @@ fn trainers() {
 }
 
 #[test]
-fn index_with_moves_alone() {
-    assert_eq!(Refusal::NotEmpty(7).index(), Some(7));
-    assert_eq!(Refusal::TooManyEmpty.index(), None);
-    assert_eq!(Refusal::TrainerWrites.index(), None);
+fn games() {
+    let settings = shared(7, &[4; 8]);
+    let judged = |records: &[u8], nodes| judge_games(records, &mut pool(nodes), Rule::DrawFalse, &settings);
+    refused(judged(&[0; 43], 90), Refusal::RecordLength, 1, "a record is not 21 bytes long");
+    let count = "there is no game to judge, or there are over eight";
+    refused(judged(&[], 90), Refusal::GameCount, 20, count);
+    refused(judged(&[w(); 9].concat(), 90), Refusal::GameCount, 20, count);
+    let shares = "the shares of the games sum above the allowance";
+    refused(judged(&[w(); 2].concat(), 90), Refusal::SharesOverAllowance, 20, shares);
+    let part = "the pool has no room for one node a game; a node takes five words";
+    refused(judged(&[w(); 3].concat(), 2), Refusal::PoolEmpty, 8, part);
+    for record in &refused_records()[1..] {
+        let fault = replay(record, &[]).unwrap_err();
+        let found = judged(&[&w(), &E, &record[..]].concat(), 90).unwrap_err();
+        assert_eq!((found.number(), found.index()), (fault.number(), Some(2)));
+        assert_eq!(found.to_string(), format!("the game at index 2: {fault}"));
+    }
 }
 
-/// The first check in the call's order is the answer, whatever else is wrong: the lowest number, but 19 ahead of all.
+#[test]
+fn index_with_moves_and_games_alone() {
+    assert_eq!(Refusal::NotEmpty(7).index(), Some(7));
+    assert_eq!(Refusal::InGame(7, &Refusal::RecordBits).index(), Some(7));
+    assert_eq!(Refusal::RecordBits.index(), None);
+    assert_eq!(Refusal::TooManyEmpty.index(), None);
+    assert_eq!(Refusal::TrainerWrites.index(), None);
+    assert_eq!(Refusal::GameCount.index(), None);
+}
+
+/// The first check in the call's order is the answer, whatever else is wrong.
 #[test]
 fn first_in_order() {
     let bad = Settings { interval: 0, ..Settings::default() };

@@ -19,7 +19,7 @@ ghost use Rattle.pn.specs.Going.{Going};
 ghost use Rattle.pn.specs.Beginning.{Startable, Begun};
 ghost use Rattle.pn.specs.Ticked.{Ticked};
 ghost use Rattle.pn.specs.Stepping.{Steppable, Unsolved, Stepped};
-ghost use Rattle.pn.specs.Searches.{Searchable, Searched, Ran};
+ghost use Rattle.pn.specs.Searches.{Searchable, Searched, Ran, Started};
 use game::Game;
 use game::Move;
 use node_pool::NO_NODE;
@@ -61,7 +61,7 @@ pub struct SearchResult {
 }
 
 // The root, evaluated, alone in the pool.
-pub fn begin(
+fn begin(
     table: &[u8; 512],
     words: &mut [u32],
     path: &mut [u32; PLIES],
@@ -267,6 +267,33 @@ pub fn run(
     y
 }
 
+// A search from its root until it stops, in a pool of any words.
+pub fn start(
+    table: &[u8; 512],
+    words: &mut [u32],
+    path: &mut [u32; PLIES],
+    positions: &mut [u16; POSITIONS],
+    todo: &mut [u32; PLIES],
+    g: Game,
+    s: Settings,
+) -> Running
+    requires room { ⌜ length (now todo) ≡ plies ⌝ }
+    requires { ⌜ (now table ≡ lineTable) × (length (now path) ≡ 82) × (length (now positions) ≡ 1968) × Searchable (g .words) (now words) s ⌝ }
+    ensures room { λ _. ⌜ length (now (todo .exit)) ≡ plies ⌝ }
+    ensures { λ r. ⌜ Started (g .words) s (now (words .entry)) (now (words .exit)) (now (path .exit)) (now (positions .exit)) r ⌝ }
+{
+    let root_words = g.words;
+    let attacker = game::side_to_move(&root_words, 0);
+    let first = begin(table, words, path, positions, g, s.rule);
+    let x = Running {
+        prover: first,
+        tick: s.interval,
+        stop: false,
+        cause: 0,
+    };
+    run(table, words, path, positions, todo, x, s, attacker)
+}
+
 // The search of an accepted position in a pool of any words.
 pub fn search(words: &mut [u32], g: Game, s: Settings) -> SearchResult
     requires { ⌜ Searchable (g .words) (now words) s ⌝ }
@@ -276,24 +303,6 @@ pub fn search(words: &mut [u32], g: Game, s: Settings) -> SearchResult
     let mut path: [u32; PLIES] = [0; PLIES];
     let mut positions: [u16; POSITIONS] = [0; POSITIONS];
     let mut todo: [u32; PLIES] = [0; PLIES];
-    let root_words = g.words;
-    let attacker = game::side_to_move(&root_words, 0);
-    let first = begin(&table, words, &mut path, &mut positions, g, s.rule);
-    let x = Running {
-        prover: first,
-        tick: s.interval,
-        stop: false,
-        cause: 0,
-    };
-    let last = run(
-        &table,
-        words,
-        &mut path,
-        &mut positions,
-        &mut todo,
-        x,
-        s,
-        attacker,
-    );
+    let last = start(&table, words, &mut path, &mut positions, &mut todo, g, s);
     finish(words, &path, s, last)
 }

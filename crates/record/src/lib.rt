@@ -16,7 +16,7 @@ use cells::Codes;
 use game::Game;
 
 // A record's length in bytes.
-const RECORD_LENGTH: usize = 21;
+pub const RECORD_LENGTH: usize = 21;
 
 // Where a position's words have, after the cells, the boards that X has won.
 const X_WON: usize = 18;

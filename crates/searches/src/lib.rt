@@ -22,15 +22,15 @@ use prove::Evaluation;
 use record::Loaded;
 
 // The ends of search's ranges: nodes of the pool, interval, budget.
-const LEAST_NODES: usize = 1;
+pub const LEAST_NODES: usize = 1;
 
-const MOST_NODES: usize = 16777216;
+pub const MOST_NODES: usize = 16777216;
 
-const LEAST_INTERVAL: u64 = 1;
+pub const LEAST_INTERVAL: u64 = 1;
 
-const MOST_INTERVAL: u64 = 1000000;
+pub const MOST_INTERVAL: u64 = 1000000;
 
-const MOST_BUDGET: u64 = 1000000000000;
+pub const MOST_BUDGET: u64 = 1000000000000;
 
 // What a search is given beside the record, the pool and the rule.
 pub struct SearchLimits {

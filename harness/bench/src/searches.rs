@@ -1,6 +1,7 @@
 //! The searches that are run on both sides.
 
 use calls::record::{Position, LENGTH};
+use measure::positions::{moves, M1, M2, M4};
 
 /// The largest pool that the library takes; every search is lent this one.
 pub const POOL_NODES: usize = 16_777_216;
@@ -13,12 +14,6 @@ pub const INTERVAL: u64 = 10_000;
 pub const LIMIT: u64 = u64::MAX;
 /// More expansions than any search of a solved ending takes.
 const WHOLE: u64 = 100_000_000;
-
-const M1: &str = "33 35 53 32 26 60 00 08 85 51 12 23 30 04 40 06 65 56 62 28 83 37 70 02 21 15 52 24 48 86 68 82";
-const M2: &str = "17 71 16 68 80 07 70 04 43 33 34 44 40 03 37 76 64 48 88 84 45 55 56 62 24 46 65 52 25 57 73 32 \
-                  28 85 50 00 08 82 23 30";
-const M4: &str = "17 71 16 68 80 07 70 04 43 33 34 44 40 03 37 76 64 48 88 84 45 55 56 62 24 46 65 52 25 57 73 32 \
-                  28 85 50 00 08 82 23 30 06 60 01 10";
 
 pub struct Search {
     pub name: &'static str,
@@ -47,8 +42,6 @@ pub const COUNTED: [Search; 2] = [
 impl Search {
     /// The record of the position, by the original's own moves.
     pub fn record(&self) -> [u8; LENGTH] {
-        let moves: Vec<u8> =
-            self.moves.split_whitespace().map(|m| u8::from_str_radix(m, 16).expect("a move is two digits")).collect();
-        original::replay(&Position::start().write(), &moves).expect("the moves are legal")
+        original::replay(&Position::start().write(), &moves(self.moves)).expect("the moves are legal")
     }
 }

@@ -3,6 +3,7 @@
 //! the original, and nothing here calls the proved library.
 
 pub mod book;
+pub mod games;
 pub mod hex;
 pub mod line;
 pub mod record;
@@ -10,5 +11,6 @@ pub mod table;
 pub mod tool;
 
 pub use book::{Book, BookCall, Who};
+pub use games::Games;
 pub use line::{Answer, Call, Fields, FullVerdict, Kind};
 pub use record::Position;

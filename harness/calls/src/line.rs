@@ -8,12 +8,14 @@
 //! referee RECORD RULE                                   True or False
 //! sheets FIRST SECOND [OUTPUT-LENGTH]                   COUNT RECORD
 //! book ...                                              as `book` has them
+//! eight ...                                             as `games` has it
 //!                                                       refused NUMBER INDEX
 //! ```
 //!
 //! Records, moves and sheets are hexadecimal, `-` for none. The output length is that of the lent buffer.
 
 use crate::book::{self, Book, BookCall};
+use crate::games::{self, Games};
 use crate::hex;
 use crate::table::{MOVES_ROOM, RECORD_ROOM};
 use std::fmt;
@@ -30,6 +32,7 @@ pub enum Call {
     Referee { record: Vec<u8>, rule: u64 },
     Sheets { first: Vec<u8>, second: Vec<u8>, output: usize },
     Book(BookCall),
+    Games(Games),
 }
 
 /// Which call it is.
@@ -42,11 +45,12 @@ pub enum Kind {
     Referee,
     Sheets,
     Book,
+    Games,
 }
 
 impl Kind {
-    pub const ALL: [Kind; 7] =
-        [Kind::Moves, Kind::Replay, Kind::Search, Kind::Full, Kind::Referee, Kind::Sheets, Kind::Book];
+    pub const ALL: [Kind; 8] =
+        [Kind::Moves, Kind::Replay, Kind::Search, Kind::Full, Kind::Referee, Kind::Sheets, Kind::Book, Kind::Games];
 
     /// The word that a call's line starts with.
     pub fn name(self) -> &'static str {
@@ -58,6 +62,7 @@ impl Kind {
             Kind::Referee => "referee",
             Kind::Sheets => "sheets",
             Kind::Book => "book",
+            Kind::Games => "eight",
         }
     }
 
@@ -76,6 +81,7 @@ impl Kind {
             Kind::Referee => "RECORD RULE",
             Kind::Sheets => "FIRST SECOND [OUTPUT-LENGTH]",
             Kind::Book => book::TAKES,
+            Kind::Games => games::TAKES,
         }
     }
 }
@@ -90,6 +96,7 @@ impl Call {
             Call::Referee { .. } => Kind::Referee,
             Call::Sheets { .. } => Kind::Sheets,
             Call::Book(_) => Kind::Book,
+            Call::Games(_) => Kind::Games,
         }
     }
 }
@@ -164,6 +171,8 @@ pub enum Answer {
     Found(Option<Verdict>),
     /// Whether the pair of a publish is held, and so published.
     Published(bool),
+    /// The results of games that were judged together.
+    Games(Vec<Fields>),
     Refused {
         number: u32,
         index: u64,
@@ -171,7 +180,7 @@ pub enum Answer {
 }
 
 impl Answer {
-    /// A refusal that names no move.
+    /// A refusal that names no move and no game.
     pub fn refused(number: u32) -> Answer {
         Answer::Refused { number, index: 0 }
     }
@@ -210,6 +219,7 @@ impl fmt::Display for Answer {
             Answer::Found(Some(verdict)) => write!(f, "{:?}", verdict),
             Answer::Published(true) => write!(f, "published"),
             Answer::Found(None) | Answer::Published(false) => write!(f, "notheld"),
+            Answer::Games(results) => games::show_results(f, results),
             Answer::Refused { number, index } => write!(f, "refused {} {}", number, index),
         }
     }
@@ -238,6 +248,7 @@ impl fmt::Display for Call {
                 write_output(f, *output, RECORD_ROOM)
             }
             Call::Book(call) => write!(f, "book {}", call),
+            Call::Games(call) => write!(f, "eight {}", call),
         }
     }
 }
@@ -287,6 +298,7 @@ pub fn parse(line: &str) -> Result<Call, String> {
             output: output(rest, RECORD_ROOM)?,
         }),
         ["book", rest @ ..] => book::parse(rest).map(Call::Book),
+        ["eight", rest @ ..] => games::parse(rest).map(Call::Games),
         words => Err(no_call(words)),
     }
 }

@@ -1,10 +1,11 @@
-//! The table of refusals (MANUAL, Turned back), checks 1 to 10 and 16 to 19, as plain code of our own. The original has
+//! The table of refusals (MANUAL, Turned back), checks 1 to 10 and 16 to 20, as plain code of our own. The original has
 //! no such checks, so these are not its answers: they decide what is handed to it, and they are what a
 //! refusal of the proved library is compared with. Refusals 11 to 15 are the original's own errors.
 //!
 //! Every function gives the first check that fails, in the order of the table (MANUAL, Calls), or none.
 
 use crate::book::{Book, Who};
+use crate::games::{Games, MOST_GAMES};
 use crate::record::{Position, EMPTY, FREE_CHOICE, LENGTH, O, X};
 
 const LINES: [[usize; 3]; 8] = [[0, 1, 2], [3, 4, 5], [6, 7, 8], [0, 3, 6], [1, 4, 7], [2, 5, 8], [0, 4, 8], [2, 4, 6]];
@@ -108,8 +109,14 @@ pub fn room_refusal(output: usize, room: usize) -> Option<u32> {
 
 /// Checks 1 to 6 and 8 to 10 of search.
 pub fn search_refusal(record: &[u8], rule: u64, pool: u64, budget: u64, interval: u64) -> Option<u32> {
-    let settings = rule > LARGEST_RULE || !(1..=LARGEST_INTERVAL).contains(&interval) || budget > LARGEST_BUDGET;
+    let settings = out_of_range(rule, interval, &[budget]);
     record_refusal(record).or(first(&[(8, pool < 1), (9, pool > LARGEST_POOL), (10, settings)]))
+}
+
+/// Check 10 fails.
+fn out_of_range(rule: u64, interval: u64, budgets: &[u64]) -> bool {
+    let large = |budget: &u64| *budget > LARGEST_BUDGET;
+    rule > LARGEST_RULE || !(1..=LARGEST_INTERVAL).contains(&interval) || budgets.iter().any(large)
 }
 
 /// Search's checks without a rule.
@@ -158,4 +165,24 @@ pub fn add_refusal(
 /// Check 19, ahead of all others.
 fn caller_refusal(who: Who) -> Option<u32> {
     first(&[(19, who.is_trainer())])
+}
+
+/// The first check of games judged together that fails, and with 2 to 6 the game whose record it refuses, from 0 on: of
+/// the checks of all records the earliest counts, then the lowest game.
+pub fn games_refusal(call: &Games) -> Option<(u32, u64)> {
+    let length = (1, !call.records.len().is_multiple_of(LENGTH));
+    let number = (20, !(1..=MOST_GAMES).contains(&call.count()));
+    let refused = |(game, record)| record_refusal(record).map(|check| (check, game));
+    let records = (0..).zip(call.records.chunks_exact(LENGTH)).filter_map(refused).min();
+    let at_first = |checks: &[(u32, bool)]| first(checks).map(|check| (check, 0));
+    at_first(&[length, number]).or(records).or_else(|| at_first(&games_settings(call)))
+}
+
+/// Checks 8 of a part, 9 of the whole pool, 10, and 20 for the sum of the shares. Shares past the games are not read.
+fn games_settings(call: &Games) -> [(u32, bool); 4] {
+    let Games { rule, pool, allowance, interval, .. } = *call;
+    let shares = call.shares_read();
+    let settings = out_of_range(rule, interval, &[allowance]) || out_of_range(rule, interval, shares);
+    let sum: u128 = shares.iter().map(|share| u128::from(*share)).sum();
+    [(8, call.part() < 1), (9, pool > LARGEST_POOL), (10, settings), (20, sum > u128::from(allowance))]
 }

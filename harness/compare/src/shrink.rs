@@ -3,7 +3,7 @@
 use calls::book::ENTRY;
 use calls::record::{Position, EMPTY, FREE_CHOICE, LENGTH};
 use calls::table::{MOVES_ROOM, RECORD_ROOM};
-use calls::{Book, BookCall, Call};
+use calls::{Book, BookCall, Call, Games};
 
 /// The smallest list found from `list` on for which `differs` holds, as it does for `list`.
 pub fn smallest(mut list: Vec<Call>, differs: impl Fn(&[Call]) -> bool) -> Vec<Call> {
@@ -57,7 +57,38 @@ fn smaller(call: &Call) -> Vec<Call> {
         }
         Call::Sheets { first, second, output } => sheets(first, second, *output),
         Call::Book(line) => smaller_lines(line),
+        Call::Games(games) => smaller_games(games).into_iter().map(Call::Games).collect(),
     }
+}
+
+/// Without a game and its share, then with a lower number, a smaller record or without the last byte.
+fn smaller_games(games: &Games) -> Vec<Games> {
+    let mut out: Vec<Games> = (0..games.count()).rev().map(|at| without_game(games, at)).collect();
+    let mut of_numbers = games.clone();
+    for (at, number) in of_numbers.numbers().into_iter().enumerate() {
+        out.extend(lower(*number).map(|less| {
+            let mut fewer = games.clone();
+            *fewer.numbers()[at] = less;
+            fewer
+        }));
+    }
+    let with = |records: Vec<u8>| Games { records, ..games.clone() };
+    out.extend(games.records.split_last().map(|(_, rest)| with(rest.to_vec())));
+    for (at, record) in games.records.chunks_exact(LENGTH).enumerate() {
+        let (before, after) = (&games.records[..LENGTH * at], &games.records[LENGTH * (at + 1)..]);
+        out.extend(records(record).map(|fewer| with([before, &fewer, after].concat())));
+    }
+    out
+}
+
+/// The shares of the games behind it move up.
+fn without_game(games: &Games, at: usize) -> Games {
+    let mut fewer = games.clone();
+    fewer.records.drain(LENGTH * at..LENGTH * (at + 1));
+    if let Some(rest) = fewer.shares.get_mut(at..) {
+        rest.rotate_left(1);
+    }
+    fewer
 }
 
 /// A book with fewer entries, bytes or used entries; a call of it as other calls are made smaller.

@@ -1,6 +1,6 @@
 //! A tally of answers by what they are, so that the run shows what it covered.
 
-use calls::{Answer, Call};
+use calls::{Answer, Call, Fields};
 use oracle::Ending;
 use std::collections::BTreeMap;
 
@@ -18,6 +18,7 @@ pub fn kind(call: &Call, answer: &Answer, count: u64) -> String {
         Answer::Moves(_) | Answer::Record(_) => "answered".to_string(),
         Answer::Value(_) | Answer::Found(_) | Answer::Published(_) => answer.to_string(),
         Answer::Opening { .. } => how_it_ended(call),
+        Answer::Games(results) => how_far_they_went(call, results),
         Answer::Added { verdict, count: after } => {
             format!("{:?}, {}", verdict, if *after > count { "stored" } else { "not stored" })
         }
@@ -44,4 +45,15 @@ fn how_it_ended(call: &Call) -> String {
         Ending::Difference => "they differ".to_string(),
         Ending::Error(number) => format!("error {} on both", number),
     }
+}
+
+/// How many games there were, and how many of them took more expansions than their shares.
+fn how_far_they_went(call: &Call, results: &[Fields]) -> String {
+    let Call::Games(games) = call else { unreachable!("no other call has games") };
+    let further = match results.iter().zip(games.shares).filter(|(result, share)| result.expanded > *share).count() {
+        0 => "none",
+        1 => "one",
+        _ => "several",
+    };
+    format!("{} games, {} past its share", results.len(), further)
 }

@@ -1,8 +1,8 @@
 //! What any answer must meet, whatever came in. Which refusal is due is asked of `calls::table`; that a result
 //! is the right one is the comparison's to see.
 
-use crate::books;
 use crate::run::Answered;
+use crate::{books, games};
 use calls::record::{EMPTY, FREE_CHOICE, LENGTH, O, X};
 use calls::table::{self, Board, MOVES_ROOM, RECORD_ROOM};
 use calls::{Book, Call, Position};
@@ -15,12 +15,13 @@ const MOST_MOVES: u64 = 81;
 /// `book` is what a book's call was lent.
 pub fn check(call: &Call, book: &Book, a: &Answered) -> Result<(), String> {
     let due = due(call, book);
+    let (code, index) = due.unwrap_or((0, 0));
     let bad_move = due.is_none() && matches!(call, Call::Replay { .. }) && (11..=15).contains(&a.code);
-    if a.code != due.unwrap_or(0) && !bad_move {
-        return Err(format!("code {} where {} is due", a.code, due.unwrap_or(0)));
+    if a.code != code && !bad_move {
+        return Err(format!("code {} where {} is due", a.code, code));
     }
-    if a.index != 0 && !bad_move {
-        return Err(format!("index {} with code {}", a.index, a.code));
+    if a.index != index && !bad_move {
+        return Err(format!("index {} with code {}, where {} is due", a.index, a.code, index));
     }
     if a.code != 0 && a.numbers.iter().any(|n| *n != 0) {
         return Err(format!("code {} with a result, {:?}", a.code, a.numbers));
@@ -44,9 +45,9 @@ pub fn written(call: &Call, a: &Answered) -> usize {
     }
 }
 
-/// The refusal of checks 1 to 10 and 16 to 19, if one is due.
-fn due(call: &Call, book: &Book) -> Option<u32> {
-    match call {
+/// The refusal of checks 1 to 10 and 16 to 20, if one is due, and its index.
+fn due(call: &Call, book: &Book) -> Option<(u32, u64)> {
+    let number = match call {
         Call::Moves { record, output } => table::output_refusal(record, *output, MOVES_ROOM),
         Call::Replay { record, output, .. } => table::output_refusal(record, *output, RECORD_ROOM),
         Call::Referee { record, rule } => table::referee_refusal(record, *rule),
@@ -56,7 +57,9 @@ fn due(call: &Call, book: &Book) -> Option<u32> {
         Call::Full { record, pool, budget, interval, .. } => table::full_refusal(record, *pool, *budget, *interval),
         Call::Sheets { output, .. } => table::room_refusal(*output, RECORD_ROOM),
         Call::Book(call) => books::due(call, book),
-    }
+        Call::Games(games) => return table::games_refusal(games),
+    };
+    number.map(|number| (number, 0))
 }
 
 /// The index names a move; a byte that is no move is the first one, and no later one is refused for it.
@@ -85,6 +88,7 @@ fn result(call: &Call, book: &Book, a: &Answered) -> Result<(), String> {
         }
         Call::Sheets { first, second, .. } => opening(first, second, a.numbers[0], &a.output),
         Call::Book(call) => books::result(call, book, a),
+        Call::Games(games) => games::result(games, a),
     }
 }
 
@@ -146,7 +150,7 @@ fn is_legal(position: &Position, m: &u8) -> bool {
 }
 
 /// The nine fields of an answered search; settings are pool, limit, budget and interval.
-fn search(numbers: &[u64], [pool, limit, budget, interval]: [u64; 4]) -> Result<(), String> {
+pub fn search(numbers: &[u64], [pool, limit, budget, interval]: [u64; 4]) -> Result<(), String> {
     let [verdict, proof, disproof, allocated, freed, proved, disproved, expanded, cause] = numbers else {
         return Err(format!("{} fields", numbers.len()));
     };

@@ -1,5 +1,6 @@
-//! The nine exports as pointers, so that wrong ones can stand in for them (`wrong`).
+//! The ten exports as pointers, so that wrong ones can stand in for them (`wrong`).
 
+use calls::games::MOST_GAMES;
 use uttt::ffi;
 
 type Replay = unsafe extern "C" fn(*const u8, usize, *const u8, usize, *mut u8, usize) -> ffi::ReplayAnswer;
@@ -8,6 +9,17 @@ type Referee = unsafe extern "C" fn(*const u8, usize, u64) -> ffi::RefereeAnswer
 type Search = unsafe extern "C" fn(*const u8, usize, *mut u32, usize, u64, u64, u64, u64) -> ffi::SearchAnswer;
 type Full = unsafe extern "C" fn(*const u8, usize, *mut u32, usize, u64, u64, u64) -> ffi::FullAnswer;
 type Sheets = unsafe extern "C" fn(*const u8, usize, *const u8, usize, *mut u8, usize, *mut u32) -> u64;
+type Games = unsafe extern "C" fn(
+    *const u8,
+    usize,
+    *mut u32,
+    usize,
+    *const [u64; MOST_GAMES],
+    u64,
+    u64,
+    u64,
+    u64,
+) -> ffi::GamesAnswer;
 type Lookup = unsafe extern "C" fn(bool, *const u8, usize, u64, *const u8, usize, u64) -> ffi::LookupAnswer;
 type Publish = unsafe extern "C" fn(bool, *mut u8, usize, u64, *const u8, usize, u64) -> ffi::PublishAnswer;
 type Add = unsafe extern "C" fn(
@@ -33,6 +45,7 @@ pub struct Exports {
     pub search: Search,
     pub full: Full,
     pub sheets: Sheets,
+    pub games: Games,
     pub lookup: Lookup,
     pub publish: Publish,
     pub add: Add,
@@ -46,6 +59,7 @@ pub const LIBRARY: Exports = Exports {
     search: ffi::uttt_search,
     full: ffi::uttt_full_verdict,
     sheets: ffi::uttt_agreed_opening,
+    games: ffi::uttt_judge_games,
     lookup: ffi::uttt_book_lookup,
     publish: ffi::uttt_book_publish,
     add: ffi::uttt_book_add,

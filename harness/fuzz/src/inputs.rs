@@ -1,7 +1,7 @@
 //! Calls to try: the generator's, the same with bytes and settings damaged, and bytes at random.
 
 use calls::table::{LARGEST_BUDGET, LARGEST_POOL};
-use calls::{BookCall, Call, Kind, Who};
+use calls::{BookCall, Call, Games, Kind, Who};
 use oracle::generate::{self, Random};
 
 /// The longest record, list of moves, output and book.
@@ -44,6 +44,7 @@ fn damage(random: &mut Random, call: &mut Call) {
             (0, Call::Book(BookCall::Add { rule, pool, limit, budget, interval, .. })) => {
                 *one_of(random, [rule, pool, limit, budget, interval]) = number(random)
             }
+            (0, Call::Games(games)) => *one_of(random, games.numbers()) = number(random),
             (0, Call::Referee { rule, .. }) => *rule = number(random),
             (0, Call::Book(BookCall::Lookup { rule, .. } | BookCall::Publish { rule, .. })) => *rule = number(random),
             (1, Call::Book(line)) if line.asked().is_some() => any_caller(random, line),
@@ -85,6 +86,7 @@ fn scramble(random: &mut Random, call: &mut Call) {
             *output = length(random)
         }
         Call::Book(line) => scramble_line(random, line),
+        Call::Games(games) => games.numbers().into_iter().for_each(|n| *n = number(random)),
     }
 }
 
@@ -108,7 +110,7 @@ fn any_caller(random: &mut Random, line: &mut BookCall) {
     }
 }
 
-/// The record, the first sheet or the bytes of a book, if there are any.
+/// The record, the records, the first sheet or the bytes of a book, if there are any.
 fn first_of(call: &mut Call) -> Option<&mut Vec<u8>> {
     match call {
         Call::Moves { record, .. }
@@ -120,6 +122,7 @@ fn first_of(call: &mut Call) -> Option<&mut Vec<u8>> {
             BookCall::Add { record, .. } | BookCall::Lookup { record, .. } | BookCall::Publish { record, .. },
         ) => Some(record),
         Call::Sheets { first, .. } => Some(first),
+        Call::Games(games) => Some(&mut games.records),
         Call::Book(BookCall::Set(book)) => Some(&mut book.bytes),
         Call::Book(BookCall::New { .. } | BookCall::Dump) => None,
     }
@@ -175,8 +178,30 @@ fn bound(call: &mut Call) {
     {
         *pool %= MOST_NODES + 1;
         if *budget <= LARGEST_BUDGET && *pool > FEW_NODES {
-            *budget %= if *pool > MANY_NODES { BUDGET_OF_MANY } else { BUDGET_OF_SOME };
+            *budget %= most_expansions(*pool);
         }
+    }
+    if let Call::Games(games) = call {
+        bound_games(games);
+    }
+}
+
+fn most_expansions(nodes: u64) -> u64 {
+    if nodes > MANY_NODES {
+        BUDGET_OF_MANY
+    } else {
+        BUDGET_OF_SOME
+    }
+}
+
+/// The allowance goes by a part. Where it is made smaller, so are the shares.
+fn bound_games(games: &mut Games) {
+    games.pool %= MOST_NODES + 1;
+    let (part, most) = (games.part(), most_expansions(games.part()));
+    if games.allowance <= LARGEST_BUDGET && part > FEW_NODES && games.allowance >= most {
+        games.allowance %= most;
+        let even = games.allowance / games.count() as u64;
+        games.shares.iter_mut().for_each(|share| *share = even.min(*share));
     }
 }
 

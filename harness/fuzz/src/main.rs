@@ -14,13 +14,17 @@ mod books;
 mod checks;
 mod exports;
 mod filling;
+mod game_calls;
+mod games;
 mod guarded;
 mod inputs;
+mod passes;
 mod run;
 mod watch;
 mod wide;
 mod wrong;
 mod wrong_books;
+mod wrong_games;
 mod wrong_marks;
 
 use calls::{Book, Call};
@@ -71,7 +75,7 @@ fn usage() -> ExitCode {
 
 /// What is wrong with each, and its exports.
 fn wrong_libraries() -> impl Iterator<Item = (&'static str, Exports)> {
-    wrong::ALL.into_iter().chain(wrong_books::ALL).chain(wrong_marks::ALL)
+    wrong::ALL.into_iter().chain(wrong_books::ALL).chain(wrong_marks::ALL).chain(wrong_games::ALL)
 }
 
 /// Runs every wrong library in a process of its own; each must end with a violation.
@@ -185,6 +189,7 @@ fn kind(call: &Call, a: &Answered) -> String {
         Call::Full { .. } => format!("verdict {}, causes {} and {}", a.numbers[0], a.numbers[9], a.numbers[18]),
         Call::Referee { .. } => format!("value {}", a.numbers[0]),
         Call::Book(line) => books::outcome(line, a),
+        Call::Games(_) => format!("{} games", a.numbers[0]),
         Call::Moves { .. } | Call::Sheets { .. } if a.numbers[0] == 0 => "none".to_string(),
         _ => "answered".to_string(),
     };

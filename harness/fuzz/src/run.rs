@@ -6,8 +6,9 @@ use crate::filling::Filling;
 use crate::guarded::{Edge, Region};
 use crate::inputs::{LONGEST, MOST_NODES};
 use crate::watch;
+use calls::games::MOST_GAMES;
 use calls::record::LENGTH;
-use calls::{Book, Call};
+use calls::{Book, Call, Games};
 use oracle::generate::Random;
 use uttt::ffi;
 
@@ -28,12 +29,13 @@ pub struct Lender {
     pub exports: Exports,
     /// A call that takes longer has failed.
     pub seconds: u32,
-    /// What is only read: a record or the first sheet, and moves or the second sheet.
+    /// What is only read: a record, records or the first sheet, and moves or the second sheet.
     pub first: Region,
     second: Region,
     /// A book stands in the output's place.
     pub output: Region,
     number: Region,
+    pub shares: Region,
     pub pool: Region,
 }
 
@@ -42,7 +44,8 @@ impl Lender {
         let region = |capacity| Region::new(capacity).expect("the system has addresses");
         let pool = region(NODE_BYTES * MOST_NODES as usize + NODE_BYTES);
         let [first, second, output] = [(); 3].map(|()| region(2 * LONGEST));
-        Lender { exports, seconds, first, second, output, number: region(WORD_BYTES), pool }
+        let (number, shares) = (region(WORD_BYTES), region(size_of::<[u64; MOST_GAMES]>()));
+        Lender { exports, seconds, first, second, output, number, shares, pool }
     }
 
     /// Answers the call, or says what it did that it may not.
@@ -61,7 +64,8 @@ impl Lender {
             Call::Moves { output, .. } => self.moves(*output, line, edge, random),
             Call::Replay { output, .. } => self.replay(*output, line, edge, random),
             Call::Referee { rule, .. } => Ok(self.referee(*rule, line)),
-            Call::Search { pool, .. } | Call::Full { pool, .. } => self.search(call, *pool, line, edge, random),
+            Call::Search { pool, .. } | Call::Full { pool, .. } => self.search(call, *pool, *pool, line, edge, random),
+            Call::Games(games) => self.games(call, games, line, edge, random),
             Call::Sheets { output, .. } => self.sheets(*output, line, edge, random),
             Call::Book(call) => self.book(call, book, line, edge, random),
         }?;
@@ -121,19 +125,20 @@ impl Lender {
         Answered { code: a.code, index: a.index, numbers: vec![a.value.into()], output: vec![] }
     }
 
-    /// Search or full verdict, twice: the second time with what the first one left in the pool.
-    fn search(
+    /// Search, full verdict or games, twice: the second time with what the first one left in the pool. Of its nodes
+    /// so many can be written.
+    pub fn search(
         &mut self,
         call: &Call,
         nodes: u64,
+        open: u64,
         line: &str,
         edge: Edge,
         random: &mut Random,
     ) -> Result<Answered, String> {
-        let capacity = NODE_BYTES * nodes as usize;
-        self.pool.lend(capacity + WORD_BYTES * random.index(5), edge, Filling::any(random));
+        self.pool.lend(NODE_BYTES * nodes as usize + WORD_BYTES * random.index(5), edge, Filling::any(random));
         let first = self.pool_call(call, line);
-        let written = if first.code == 0 { capacity } else { 0 };
+        let written = if first.code == 0 { NODE_BYTES * open as usize } else { 0 };
         self.pool.unchanged(written)?;
         let again = self.pool_call(call, line);
         self.pool.unchanged(written)?;
@@ -146,7 +151,8 @@ impl Lender {
     fn pool_call(&mut self, call: &Call, line: &str) -> Answered {
         let (from, size) = (self.first.pointer(), self.first.bytes().len());
         let (words, length) = (self.pool.pointer() as *mut u32, self.pool.bytes().len() / WORD_BYTES);
-        let (search, full) = (self.exports.search, self.exports.full);
+        let Exports { search, full, games, .. } = self.exports;
+        let shares = self.shares.pointer() as *const [u64; MOST_GAMES];
         // SAFETY: pointers and lengths belong together, and the buffers are apart.
         watch::during(line, self.seconds, || match *call {
             Call::Search { rule, limit, budget, interval, .. } => {
@@ -154,6 +160,9 @@ impl Lender {
             }
             Call::Full { limit, budget, interval, .. } => {
                 judged(unsafe { full(from, size, words, length, limit, budget, interval) })
+            }
+            Call::Games(Games { rule, limit, allowance, interval, .. }) => {
+                judged_together(unsafe { games(from, size, words, length, shares, rule, limit, allowance, interval) })
             }
             _ => unreachable!("no other call has a pool"),
         })
@@ -169,12 +178,17 @@ pub fn judged(a: ffi::FullAnswer) -> Answered {
     Answered { code: a.code, index: a.index, numbers, output: vec![] }
 }
 
-fn fields(f: ffi::ResultFields) -> [u64; 9] {
+pub fn judged_together(a: ffi::GamesAnswer) -> Answered {
+    let numbers = [vec![a.count], a.results.map(fields).concat()].concat();
+    Answered { code: a.code, index: a.index, numbers, output: vec![] }
+}
+
+pub fn fields(f: ffi::ResultFields) -> [u64; 9] {
     let (verdict, proof, disproof, cause) = (f.verdict.into(), f.proof.into(), f.disproof.into(), f.cause.into());
     [verdict, proof, disproof, f.allocated, f.freed, f.proved, f.disproved, f.expanded, cause]
 }
 
-/// What a call reads: a record or the first sheet, and moves or the second sheet.
+/// What a call reads: a record, records or the first sheet, and moves or the second sheet.
 fn read_by(call: &Call) -> (&[u8], &[u8]) {
     match call {
         Call::Moves { record, .. }
@@ -184,11 +198,12 @@ fn read_by(call: &Call) -> (&[u8], &[u8]) {
         Call::Replay { record, moves, .. } => (record, moves),
         Call::Sheets { first, second, .. } => (first, second),
         Call::Book(call) => (books::record(call), &[]),
+        Call::Games(games) => (&games.records, &[]),
     }
 }
 
 /// What was lent to be read is as it was, and so are the bytes around it.
-fn kept(region: &mut Region, bytes: &[u8]) -> Result<(), String> {
+pub fn kept(region: &mut Region, bytes: &[u8]) -> Result<(), String> {
     region.unchanged(bytes.len())?;
     if region.bytes() != bytes {
         return Err("what was lent to be read was written".to_string());

@@ -4,9 +4,10 @@
 use crate::books::added;
 use crate::exports::Exports;
 use crate::guarded::Region;
-use crate::run::{judged, searched, Answered};
+use crate::run::{judged, judged_together, searched, Answered};
 use crate::watch;
 use calls::book::{entry, ENTRY, MARK};
+use calls::games::MOST_GAMES;
 use calls::hex;
 use calls::record::{Position, LENGTH};
 use calls::table::MOVES_ROOM;
@@ -16,6 +17,8 @@ const NODE_WORDS: usize = 5;
 /// The settings of the searches: rule 0, no limit, one expansion, interval 1.
 const RULE: u64 = 0;
 const LIMIT: u64 = u64::MAX;
+/// A share of one expansion for the first game.
+const SHARES: [u64; MOST_GAMES] = [1, 0, 0, 0, 0, 0, 0, 0];
 /// Who calls.
 const ARBITER: bool = false;
 const TRAINER: bool = true;
@@ -30,8 +33,7 @@ type Tried = (&'static str, (u32, u64), Answered);
 pub fn check(exports: &Exports, seconds: u32) -> Result<Option<usize>, String> {
     let counts = watch::during("a count over 4294967296", seconds, || large_counts(exports))?;
     as_due(&counts)?;
-    let (Some(mut long), Some(mut pool)) = (Region::new(OVER + LENGTH), Region::new(4 * NODE_WORDS * (OVER + 1)))
-    else {
+    let (Some(mut long), Some(mut longest)) = (Region::new(OVER + LENGTH), Region::new(LENGTH * (OVER + 1))) else {
         return Ok(None);
     };
     let tried = watch::during("a length over 4294967296", seconds, || {
@@ -40,7 +42,8 @@ pub fn check(exports: &Exports, seconds: u32) -> Result<Option<usize>, String> {
             long_lists(exports, &mut long)?,
             long_sheets(exports, &mut long)?,
             long_books(exports, &mut long)?,
-            long_pools(exports, &mut pool)?,
+            long_pools(exports, &mut longest)?,
+            many_games(exports, &mut longest)?,
         ];
         Ok::<Vec<Tried>, String>(parts.into_iter().flatten().collect())
     })?;
@@ -76,6 +79,7 @@ fn long_records(exports: &Exports, long: &mut Region) -> Result<Vec<Tried>, Stri
         let lookup = (exports.lookup)(TRAINER, entries, ENTRY, 0, at, length, RULE);
         let publish = (exports.publish)(ARBITER, entries, ENTRY, 0, at, length, RULE);
         let add = (exports.add)(ARBITER, entries, ENTRY, 0, at, length, words, size, RULE, LIMIT, 1, 1);
+        let games = (exports.games)(at, length, words, size, &SHARES, RULE, LIMIT, 1, 1);
         vec![
             ("moves, record", (1, 0), bare(moves.code, moves.index)),
             ("replay, record", (1, 0), bare(replay.code, replay.index)),
@@ -85,6 +89,7 @@ fn long_records(exports: &Exports, long: &mut Region) -> Result<Vec<Tried>, Stri
             ("lookup, record", (1, 0), bare(lookup.code, lookup.index)),
             ("publish, record", (1, 0), bare(publish.code, publish.index)),
             ("add, record", (1, 0), bare(add.code, add.index)),
+            ("games, records", (1, 0), judged_together(games)),
         ]
     };
     long.unchanged(LENGTH)?;
@@ -172,7 +177,8 @@ fn long_books(exports: &Exports, long: &mut Region) -> Result<Vec<Tried>, String
     ])
 }
 
-/// A book of one entry, and a count that cut short would be 1: refused by check 17, and nothing is written.
+/// A book of one entry, and a count that cut short would be 1: refused by check 17, and nothing is written. Then shares
+/// that cut short would sum to 0: refused by check 20.
 fn large_counts(exports: &Exports) -> Result<Vec<Tried>, String> {
     let record = hex::read(DRAWN).expect("hexadecimal");
     let (from, size, mut pool) = (record.as_ptr(), record.len(), [0; NODE_WORDS]);
@@ -180,10 +186,12 @@ fn large_counts(exports: &Exports) -> Result<Vec<Tried>, String> {
     let mut book = held.clone();
     let (at, count, words) = (book.as_mut_ptr(), OVER as u64 + 1, pool.as_mut_ptr());
     // SAFETY: pointers and lengths belong together, and the buffers are apart.
-    let (lookup, publish, add) = unsafe {
+    let (lookup, publish, add, games) = unsafe {
         let lookup = (exports.lookup)(ARBITER, at, ENTRY, count, from, size, RULE);
         let publish = (exports.publish)(ARBITER, at, ENTRY, count, from, size, RULE);
-        (lookup, publish, (exports.add)(ARBITER, at, ENTRY, count, from, size, words, NODE_WORDS, RULE, LIMIT, 0, 1))
+        let add = (exports.add)(ARBITER, at, ENTRY, count, from, size, words, NODE_WORDS, RULE, LIMIT, 0, 1);
+        let shares = SHARES.map(|share| OVER as u64 * share);
+        (lookup, publish, add, (exports.games)(from, size, words, NODE_WORDS, &shares, RULE, LIMIT, 0, 1))
     };
     if book != held || pool != [0; NODE_WORDS] {
         return Err("a large count: something was written".to_string());
@@ -192,7 +200,27 @@ fn large_counts(exports: &Exports) -> Result<Vec<Tried>, String> {
         ("lookup, count", (17, 0), bare(lookup.code, lookup.index)),
         ("publish, count", (17, 0), bare(publish.code, publish.index)),
         ("add, count", (17, 0), bare(add.code, add.index)),
+        ("games, shares", (20, 0), judged_together(games)),
     ])
+}
+
+/// Whole records of empty games, so many that cut short their bytes would be no multiple of a record's or they would be
+/// one: refused by check 20, and nothing is written.
+fn many_games(exports: &Exports, long: &mut Region) -> Result<Vec<Tried>, String> {
+    let mut pool = [0; NODE_WORDS * 100];
+    let (words, size) = (pool.as_mut_ptr(), pool.len());
+    let mut tried = Vec::new();
+    for length in [OVER.next_multiple_of(LENGTH), LENGTH * (OVER + 1)] {
+        long.lend_long(length, &Position::start().write());
+        // SAFETY: pointers and lengths belong together, and the buffers are apart.
+        let games = unsafe { (exports.games)(long.pointer(), length, words, size, &SHARES, RULE, LIMIT, 1, 1) };
+        long.unchanged(LENGTH)?;
+        tried.push(("games, number", (20, 0), judged_together(games)));
+    }
+    if pool != [0; NODE_WORDS * 100] {
+        return Err("many games: something was written".to_string());
+    }
+    Ok(tried)
 }
 
 /// Pools that cut short would be of one node: refused by check 9, and nothing is written.
@@ -205,17 +233,19 @@ fn long_pools(exports: &Exports, pool: &mut Region) -> Result<Vec<Tried>, String
         pool.lend_long(4 * length, &[]);
         let words = pool.pointer() as *mut u32;
         // SAFETY: pointers and lengths belong together, and the buffers are apart.
-        let (search, full, add) = unsafe {
+        let (search, full, add, games) = unsafe {
             let search = (exports.search)(from, size, words, length, RULE, LIMIT, 1, 1);
             let full = (exports.full)(from, size, words, length, LIMIT, 1, 1);
             let book = std::ptr::null_mut();
-            (search, full, (exports.add)(ARBITER, book, 0, 0, from, size, words, length, RULE, LIMIT, 1, 1))
+            let add = (exports.add)(ARBITER, book, 0, 0, from, size, words, length, RULE, LIMIT, 1, 1);
+            (search, full, add, (exports.games)(from, size, words, length, &SHARES, RULE, LIMIT, 1, 1))
         };
         pool.unchanged(0)?;
         tried.extend([
             ("search, pool", (9, 0), searched(search)),
             ("full, pool", (9, 0), judged(full)),
             ("add, pool", (9, 0), added(add, 0, &[])),
+            ("games, pool", (9, 0), judged_together(games)),
         ]);
     }
     Ok(tried)

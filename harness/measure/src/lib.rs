@@ -1,7 +1,8 @@
-//! What the benchmarks have in common: their command line, rounds in which every side is run once, the spread of
-//! their numbers, and instructions counted by callgrind.
+//! What the benchmarks have in common: their command line, some positions, rounds in which every side is run once, the
+//! spread of their numbers, and instructions counted by callgrind.
 
 pub mod callgrind;
+pub mod positions;
 pub mod program;
 
 use std::fmt;
@@ -11,9 +12,10 @@ use std::fmt;
 pub struct Spread(pub f64, pub f64, pub f64);
 
 impl fmt::Display for Spread {
-    /// As the tables have a ratio.
+    /// As the tables have a ratio; with one digit after the point, or as many as are asked for.
     fn fmt(&self, f: &mut fmt::Formatter) -> fmt::Result {
-        write!(f, "**{:.1}** ({:.1} to {:.1})", self.1, self.0, self.2)
+        let digits = f.precision().unwrap_or(1);
+        write!(f, "**{:.*}** ({:.*} to {:.*})", digits, self.1, digits, self.0, digits, self.2)
     }
 }
 
@@ -50,6 +52,7 @@ mod tests {
     fn a_spread_is_least_median_and_most() {
         assert_eq!(spread(vec![3.0, 1.0, 2.0]), Spread(1.0, 2.0, 3.0));
         assert_eq!(spread(vec![5.0]).to_string(), "**5.0** (5.0 to 5.0)");
+        assert_eq!(format!("{:.2}", spread(vec![5.0])), "**5.00** (5.00 to 5.00)");
     }
 
     #[test]

@@ -1,12 +1,14 @@
 //! The calls (MANUAL, Calls), answered by the original: replay by `make_move`, legal moves by
 //! `all_moves` (never on a finished position, where there are none: MANUAL, The game), search by
-//! `Prover::prove`. Refusals 1 to 10 and 16 to 19 come from `calls::table`. The original has no full verdict,
+//! `Prover::prove`. Refusals 1 to 10 and 16 to 20 come from `calls::table`. The original has no full verdict,
 //! no referee and no agreed opening: the first is two of its searches and a name of our own (`full`), the
 //! others are our own exhaustive value (`value`) and our own reading of two lists (`opening`) over its moves.
 //! Nor has it a book: lookup, add and publish are written a second time here, plainly and apart from the proved
-//! code (`book_call`), over the book of `calls::book` and the original's searches (`search`).
+//! code (`book_call`), over the book of `calls::book` and the original's searches (`search`). So are games that are judged
+//! together (`games`).
 
 use crate::game::{Game, GameState, Move, MoveError, Player};
+use crate::games;
 use crate::load;
 use crate::prove::pn::{sizeof_node, Config, Prover};
 use crate::prove::Evaluation;
@@ -48,6 +50,7 @@ pub fn answer(call: &Call, book: &mut Book) -> Answer {
             Answer::Opening { count: count as u64, record: load::record(&game).to_vec() }
         }),
         Call::Book(call) => book_call(call, book),
+        Call::Games(call) => games::answer(call),
     }
 }
 

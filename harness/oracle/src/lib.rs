@@ -24,6 +24,7 @@ pub mod prove {
 
 mod answer;
 pub mod cases;
+pub mod games;
 pub mod generate;
 pub mod load;
 mod simd;

@@ -21,20 +21,20 @@ fn one_seed_gives_one_list() {
 fn about_as_many_lines_of_each_kind_come() {
     let mut random = Random::new(1);
     let mut lines: BTreeMap<&str, usize> = BTreeMap::new();
-    for list in (0..18_000).map(|_| any_list(&mut random, &Kind::ALL)) {
+    for list in (0..21_000).map(|_| any_list(&mut random, &Kind::ALL)) {
         *lines.entry(list[0].kind().name()).or_default() += list.len();
     }
     assert!(lines.len() == Kind::ALL.len() && lines.values().all(|n| (2_500..3_500).contains(n)), "{:?}", lines);
 }
 
-/// Refusals by number, results as 0; searches by cause as 20 and up, full verdicts as 30 and up.
+/// Refusals by number, results as 0; searches by cause as 30 and up, full verdicts as 40 and up.
 fn outcomes(kind: Kind) -> BTreeSet<u64> {
     let mut random = Random::new(1);
     let answers = (0..4_000).map(|_| oracle::answer(&call(&mut random, kind), &mut Book::default()));
     let outcome = |answer| match answer {
         Answer::Refused { number, .. } => number as u64,
-        Answer::Search(fields) => 20 + fields.cause,
-        Answer::Full(verdict, ..) => 30 + verdict as u64,
+        Answer::Search(fields) => 30 + fields.cause,
+        Answer::Full(verdict, ..) => 40 + verdict as u64,
         _ => 0,
     };
     answers.map(outcome).collect()
@@ -44,10 +44,11 @@ fn outcomes(kind: Kind) -> BTreeSet<u64> {
 fn every_outcome_is_reached() {
     assert_eq!(outcomes(Kind::Moves), (0..=7).collect());
     assert_eq!(outcomes(Kind::Replay), (0..=7).chain(11..=15).collect());
-    assert_eq!(outcomes(Kind::Search), (1..=6).chain(8..=10).chain(20..=23).collect());
-    assert_eq!(outcomes(Kind::Full), (1..=6).chain(8..=10).chain(30..=35).collect());
+    assert_eq!(outcomes(Kind::Search), (1..=6).chain(8..=10).chain(30..=33).collect());
+    assert_eq!(outcomes(Kind::Full), (1..=6).chain(8..=10).chain(40..=45).collect());
     assert_eq!(outcomes(Kind::Referee), (0..=6).chain([10, 16]).collect());
     assert_eq!(outcomes(Kind::Sheets), [0, 7].into());
+    assert_eq!(outcomes(Kind::Games), (0..=6).chain([8, 9, 10, 20]).collect());
 }
 
 /// How many openings of a hundred end in each way, at least; moves after the game's end come after won and

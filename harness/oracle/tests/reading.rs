@@ -2,8 +2,8 @@
 
 use calls::book::ENTRY;
 use calls::record::{Position, EMPTY, FREE_CHOICE, LENGTH, O, X};
-use calls::table::{board_state, finished, has_line, record_refusal, Board};
-use calls::{BookCall, Call};
+use calls::table::{board_state, finished, games_refusal, has_line, record_refusal, Board};
+use calls::{BookCall, Call, Kind};
 use oracle::generate::{reading, Damage, Random};
 use std::collections::BTreeSet;
 
@@ -21,7 +21,7 @@ fn positions(list: &[(Vec<u8>, u32)]) -> impl Iterator<Item = (Position, u32)> +
 fn the_list_has_its_length() {
     let records = reading::records(&mut Random::new(1));
     let lists: Vec<_> = records.iter().flat_map(|record| reading::lists_of(record)).collect();
-    assert_eq!((records.len(), lists.len(), lists.iter().flatten().count()), (10_880, 65_280, 152_320));
+    assert_eq!((records.len(), lists.len(), lists.iter().flatten().count()), (10_880, 76_160, 163_200));
 }
 
 /// Refused by each check, and by check 3 with either side to move.
@@ -124,6 +124,22 @@ fn one_cell_from_accepted(position: &Position) -> bool {
 
 fn has_line_of(board: &[u8; 9], code: u8) -> bool {
     has_line(&board.map(|cell| cell == code))
+}
+
+/// Among the calls of games every place has a refused record by every check, and the others are not refused.
+#[test]
+fn every_game_is_refused_for_its_record() {
+    let mut seen = BTreeSet::new();
+    for (record, refusal) in list().iter().filter(|(record, _)| record.len() == LENGTH) {
+        let lists = reading::lists_of(record);
+        let Some(Call::Games(games)) = lists.iter().map(|list| &list[0]).find(|call| call.kind() == Kind::Games) else {
+            unreachable!()
+        };
+        let refused = games_refusal(games);
+        assert_eq!(refused.map_or(0, |(check, _)| check), *refusal);
+        seen.extend(refused);
+    }
+    assert_eq!(seen, (2..=6).flat_map(|check| (0..8).map(move |game| (check, game))).collect());
 }
 
 /// Among the books of accepted records every bit of an entry's record is turned somewhere.

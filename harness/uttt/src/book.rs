@@ -68,7 +68,7 @@ fn add(book: &mut Book, who: Who, record: &[u8], rule: u64, settings: [u64; 4], 
         ffi::uttt_book_add(trainer, at, length, count, from, size, words, words_length, rule, limit, budget, interval)
     };
     let searched = |a: &ffi::AddAnswer| a.code == 0 && (a.verdict == 0 || a.count != count);
-    let answered = pool::lend(nodes, pattern, call, searched)?;
+    let answered = pool::lend(nodes, pattern, call, |a| if searched(a) { nodes } else { 0 })?;
     same("record", &record_before, record)?;
     let found = verdict(answered.verdict)?;
     let refused = refusal(answered.code, answered.index, found != Verdict::Unknown)?;

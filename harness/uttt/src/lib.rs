@@ -3,6 +3,7 @@
 mod book;
 #[path = "../../../bindings/rust/src/ffi.rs"]
 pub mod ffi;
+mod games;
 mod lent;
 pub mod ours;
 mod pool;

@@ -2,7 +2,7 @@
 //! library had no business with stayed as it was; of a very long pool, those that are looked at.
 
 use crate::lent::Lent;
-use crate::{book, ffi, pool};
+use crate::{book, ffi, games, pool};
 use calls::line::Verdict;
 use calls::record::LENGTH;
 use calls::{Answer, Book, Call, Fields, FullVerdict};
@@ -33,6 +33,7 @@ fn answer_under(call: &Call, book: &mut Book, pattern: u8) -> Result<Answer, Str
         Call::Referee { record, rule } => referee(record, *rule),
         Call::Sheets { first, second, output } => sheets(first, second, *output, pattern),
         Call::Book(call) => book::answer(call, book, pattern),
+        Call::Games(call) => games::answer(call, pattern),
     }
 }
 
@@ -126,7 +127,7 @@ fn search(record: &[u8], rule: u64, nodes: u64, limits: [u64; 3], pattern: u8) -
     let call = |words, length| unsafe {
         ffi::uttt_search(record.as_ptr(), record.len(), words, length, rule, limit, budget, interval)
     };
-    let answered = pool::lend(nodes, pattern, call, |answered| answered.code == 0)?;
+    let answered = pool::lend(nodes, pattern, call, |answered| if answered.code == 0 { nodes } else { 0 })?;
     same("record", &record_before, record)?;
     if answered.code != 0 {
         return settings_refusal(answered.code, answered.index, answered.result == ffi::ResultFields::default());
@@ -145,7 +146,7 @@ fn full(record: &[u8], nodes: u64, limits: [u64; 3], pattern: u8) -> Result<Answ
     let call = |words, length| unsafe {
         ffi::uttt_full_verdict(record.as_ptr(), record.len(), words, length, limit, budget, interval)
     };
-    let answered = pool::lend(nodes, pattern, call, |answered| answered.code == 0)?;
+    let answered = pool::lend(nodes, pattern, call, |answered| if answered.code == 0 { nodes } else { 0 })?;
     same("record", &record_before, record)?;
     if answered.code != 0 {
         let zeros = answered.verdict == 0 && [answered.first, answered.second] == [ffi::ResultFields::default(); 2];
@@ -191,8 +192,8 @@ pub fn verdict(number: u32) -> Result<Verdict, String> {
     }
 }
 
-/// A refusal of a search or a full verdict: all of its results are zeros.
-fn settings_refusal(number: u32, index: u64, zeros: bool) -> Result<Answer, String> {
+/// A refusal of a call that searches: all of its results are zeros.
+pub fn settings_refusal(number: u32, index: u64, zeros: bool) -> Result<Answer, String> {
     if !zeros {
         return Err(format!("refused {} with a result", number));
     }

@@ -19,13 +19,13 @@ thread_local! {
 
 /// Lends a pool of `nodes` nodes to `call`, as its first word and its length, and gives what `call`
 /// gave. The pool has up to four words more than the nodes take, another number under the opposite
-/// pattern. Margins and those words must stay as they were; so must the nodes' words, unless `open`
-/// says that they were the call's to write.
+/// pattern. Margins and words must stay as they were, but for those of so many nodes, from the first
+/// on, as `open` says that were the call's to write.
 pub fn lend<T>(
     nodes: u64,
     pattern: u8,
     call: impl FnOnce(*mut u32, usize) -> T,
-    open: impl FnOnce(&T) -> bool,
+    open: impl FnOnce(&T) -> u64,
 ) -> Result<T, String> {
     if nodes > MOST_NODES {
         return Err(format!("no pool over {} nodes is lent", MOST_NODES));
@@ -39,7 +39,7 @@ pub fn lend<T>(
         }
         watched(all).for_each(|at| buffer[at] = filling(pattern, at));
         let answer = call(buffer[MARGIN..].as_mut_ptr(), length);
-        let written = if open(&answer) { MARGIN..MARGIN + capacity } else { 0..0 };
+        let written = MARGIN..MARGIN + WORDS_A_NODE * open(&answer) as usize;
         match watched(all).find(|at| !written.contains(at) && buffer[*at] != filling(pattern, *at)) {
             None => Ok(answer),
             Some(at) => Err(format!("word {} of a pool of {} was written", at as i64 - MARGIN as i64, length)),

@@ -2,6 +2,10 @@
 #![allow(dead_code)]
 
 pub mod book;
+/// The calls themselves, for rules that the wrapper has no name for.
+#[path = "../../src/ffi.rs"]
+pub mod ffi;
+pub mod games;
 
 use ultimattt::{Pool, Record, Rule, Settings, EMPTY_GAME};
 

@@ -9,7 +9,7 @@
 //! ```
 
 use calls::book::ENTRY;
-use calls::{Book, BookCall, Call, Kind};
+use calls::{Book, BookCall, Call, Games, Kind};
 use oracle::generate::{self, Random};
 use std::io::{self, BufWriter, Write};
 use std::process::ExitCode;
@@ -71,9 +71,10 @@ fn show(out: &mut impl Write, list: &[Call]) -> io::Result<()> {
 
 fn is_stored(list: &[Call]) -> bool {
     list.iter().all(|call| match call {
-        Call::Search { pool, .. } | Call::Full { pool, .. } | Call::Book(BookCall::Add { pool, .. }) => {
-            *pool <= STORED_NODES
-        }
+        Call::Search { pool, .. }
+        | Call::Full { pool, .. }
+        | Call::Book(BookCall::Add { pool, .. })
+        | Call::Games(Games { pool, .. }) => *pool <= STORED_NODES,
         Call::Book(BookCall::New { entries }) => ENTRY * entries <= STORED_BOOK,
         Call::Book(BookCall::Set(book)) => book.bytes.len() <= STORED_BOOK,
         Call::Moves { .. } | Call::Replay { .. } | Call::Referee { .. } | Call::Sheets { .. } | Call::Book(_) => true,

@@ -50,6 +50,15 @@ pub fn damaged(random: &mut Random) -> Vec<u8> {
     if random.once_in(30) {
         return any_bytes(random).to_vec();
     }
+    let mut record = damaged_position(random).write().to_vec();
+    if random.once_in(6) {
+        resize(random, &mut record);
+    }
+    record
+}
+
+/// An accepted position after one or two kinds of damage.
+pub fn damaged_position(random: &mut Random) -> Position {
     let mut position = accepted(random);
     let kind = Damage::any(random);
     damage(random, &mut position, kind);
@@ -57,11 +66,7 @@ pub fn damaged(random: &mut Random) -> Vec<u8> {
         let kind = Damage::any(random);
         damage(random, &mut position, kind);
     }
-    let mut record = position.write().to_vec();
-    if random.once_in(6) {
-        resize(random, &mut record);
-    }
-    record
+    position
 }
 
 /// As many bytes as a record has, at random.

@@ -5,6 +5,7 @@
 
 pub mod book;
 mod damaged;
+mod games;
 mod moves;
 mod positions;
 mod random;
@@ -70,6 +71,7 @@ pub fn call(random: &mut Random, kind: Kind) -> Call {
             let (first, second) = sheets::sheets(random);
             Call::Sheets { first, second, output: output(random, RECORD_ROOM) }
         }
+        Kind::Games => Call::Games(games::games(random)),
         Kind::Book => unreachable!("a book's lines are a list"),
     }
 }

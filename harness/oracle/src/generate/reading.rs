@@ -6,9 +6,10 @@ use super::positions::{accepted, reached};
 use super::random::Random;
 use crate::load;
 use calls::book::{entry, MARK};
+use calls::games::MOST_GAMES;
 use calls::record::{Position, LENGTH};
 use calls::table::{MOVES_ROOM, RECORD_ROOM};
-use calls::{Book, BookCall, Call, Who};
+use calls::{Book, BookCall, Call, Games, Who};
 
 /// Positions that are changed at every place: of random play after so many moves or at the game's end, and so many
 /// other accepted ones, most of which no game reaches.
@@ -56,8 +57,24 @@ pub fn lists_of(record: &[u8]) -> Vec<Vec<Call>> {
         vec![Call::Search { record: record(), rule: 0, pool, limit, budget, interval }],
         vec![Call::Full { record: record(), pool, limit, budget, interval }],
         vec![Call::Referee { record: record(), rule: 3 }],
+        vec![Call::Games(games_with(record()))],
         lines_of_a_book(record()).map(Call::Book).to_vec(),
     ]
+}
+
+/// Eight games, one of them with the record and the others empty, and an expansion for each.
+fn games_with(record: Vec<u8>) -> Games {
+    let mut records = vec![Position::start().write().to_vec(); MOST_GAMES];
+    let at = place(&record);
+    records[at] = record;
+    let (pool, allowance) = (82 * MOST_GAMES as u64, MOST_GAMES as u64);
+    let shares = [1; MOST_GAMES];
+    Games { records: records.concat(), rule: 0, pool, limit: u64::MAX, allowance, interval: 1, shares }
+}
+
+/// One of eight places, another for another record.
+fn place(record: &[u8]) -> usize {
+    record.iter().map(|byte| usize::from(*byte)).sum::<usize>() % 8
 }
 
 /// Calls of a book with entries that don't hold the record, then an unpublished True and a published False for
@@ -65,8 +82,7 @@ pub fn lists_of(record: &[u8]) -> Vec<Vec<Call>> {
 fn lines_of_a_book(record: Vec<u8>) -> [BookCall; 9] {
     let mut whole = record.clone();
     whole.resize(LENGTH, 0);
-    let place = whole.iter().map(|byte| usize::from(*byte)).sum::<usize>() % 8;
-    let near = (0..LENGTH).flat_map(|at| entry(&turned(&whole, 8 * at + place), 0, 2, MARK));
+    let near = (0..LENGTH).flat_map(|at| entry(&turned(&whole, 8 * at + place(&whole)), 0, 2, MARK));
     let others = [entry(&whole, 1, 2, MARK), entry(&whole, 0, 0, MARK), entry(&whole, 0, 3, MARK)];
     let of_record = [entry(&whole, 0, 1, 6), entry(&whole, 0, 2, MARK), entry(&whole, 2, 1, MARK)];
     let bytes = near.chain(others.concat()).chain(of_record.concat()).collect();

@@ -86,7 +86,8 @@ fn budget(random: &mut Random) -> u64 {
     }
 }
 
-fn interval(random: &mut Random) -> u64 {
+/// An interval; now and then one that is refused.
+pub fn interval(random: &mut Random) -> u64 {
     match random.below(20) {
         0 => random.pick(&[0, LARGEST_INTERVAL + 1, u64::MAX]),
         1 => random.pick(&[1, 2, LARGEST_INTERVAL]),

@@ -1,0 +1,72 @@
+//! Games judged together between guard pages, and what any answer of theirs must meet: the results are those that the
+//! library's own search gives for each game. That these are the right ones is the comparison's to see.
+
+use crate::checks::{must, search};
+use crate::filling::Filling;
+use crate::guarded::Edge;
+use crate::passes::AS_DUE;
+use crate::run::{fields, kept, Answered, Lender, NODE_BYTES, WORD_BYTES};
+use crate::watch;
+use calls::record::LENGTH;
+use calls::{Call, Games};
+use oracle::generate::Random;
+
+/// How many numbers a result has, and two of their places.
+const FIELDS: usize = 9;
+const EXPANDED: usize = 7;
+const CAUSE: usize = 8;
+
+impl Lender {
+    /// The call, then every game alone.
+    pub fn games(
+        &mut self,
+        call: &Call,
+        games: &Games,
+        line: &str,
+        edge: Edge,
+        random: &mut Random,
+    ) -> Result<Answered, String> {
+        let shares = games.shares.map(u64::to_ne_bytes).concat();
+        self.shares.lend_to_read(&shares, edge, Filling::any(random));
+        let in_parts = games.part() * games.count() as u64;
+        let answered = self.search(call, games.pool, in_parts, line, edge, random)?;
+        kept(&mut self.shares, &shares)?;
+        if answered.code == 0 {
+            self.pool.lend(NODE_BYTES * games.part() as usize, edge, Filling::any(random));
+            let alone = self.alone(games, line);
+            let due = || format!("alone the games have {:?}, together {:?}", alone, answered.numbers);
+            return answered.numbers[1..].starts_with(&alone).then_some(answered.clone()).ok_or_else(due);
+        }
+        Ok(answered)
+    }
+
+    /// The numbers of the results by lone searches, over a pool of a part's nodes.
+    fn alone(&mut self, games: &Games, line: &str) -> Vec<u64> {
+        let (from, export) = (self.first.pointer(), self.exports.search);
+        let (words, length) = (self.pool.pointer() as *mut u32, self.pool.bytes().len() / WORD_BYTES);
+        let Games { rule, limit, allowance, interval, .. } = *games;
+        // SAFETY: pointers and lengths belong together, and the buffers are apart.
+        let lone = |game: usize, budget| unsafe {
+            export(from.add(LENGTH * game), LENGTH, words, length, rule, limit, budget, interval).result
+        };
+        let results = watch::during(line, self.seconds, || AS_DUE.results(games.shares_read(), allowance, lone, lone));
+        results.into_iter().flat_map(fields).collect()
+    }
+}
+
+/// As many results as games and zeros past them, each that of a search with no less than its share; and the allowance
+/// holds, and is spent if a budget stopped a game.
+pub fn result(games: &Games, a: &Answered) -> Result<(), String> {
+    must(a.numbers[0] == games.count() as u64, "there are as many results as games")?;
+    let (given, past) = a.numbers[1..].split_at(FIELDS * games.count());
+    must(past.iter().all(|number| *number == 0), "there are zeros past the games")?;
+    let spent: u64 = given.chunks(FIELDS).map(|result| result[EXPANDED]).sum();
+    must(spent <= games.allowance, "the allowance holds")?;
+    let stopped = |result: &[u64]| result[CAUSE] == 1;
+    for (result, share) in given.chunks(FIELDS).zip(games.shares) {
+        let budget = if stopped(result) { share.max(result[EXPANDED]) } else { games.allowance };
+        search(result, [games.part(), games.limit, budget, games.interval])?;
+    }
+    let all_spent = spent == games.allowance;
+    must(all_spent || !given.chunks(FIELDS).any(stopped), "where a budget stops a game, the allowance is spent")
+}

@@ -1,0 +1,156 @@
+//! Games that are judged together: none to ten of them, some with the same record or with damaged ones, parts of the pool
+//! that are too small and others, and shares that spend the allowance, leave of it for a second pass, or are too much.
+
+use super::damaged::{any_bytes, damaged_position};
+use super::positions::{accepted, ending, late, reached};
+use super::random::Random;
+use super::settings;
+use crate::load;
+use calls::games::MOST_GAMES;
+use calls::record::LENGTH;
+use calls::table::{LARGEST_BUDGET, LARGEST_POOL};
+use calls::Games;
+
+/// Up to so many nodes of a part a search comes to an end soon, whatever it may spend.
+const FEW_NODES: u64 = 200;
+
+pub fn games(random: &mut Random) -> Games {
+    let count = match random.below(16) {
+        0 => random.pick(&[0, 9, 10]),
+        1 | 2 => 1,
+        3..=7 => 2,
+        8..=10 => 3,
+        11 | 12 => MOST_GAMES,
+        _ => 4 + random.index(4),
+    };
+    let records = records(random, count);
+    let pool = pool(random, count.max(1) as u64);
+    let allowance = allowance(random, pool / count.max(1) as u64);
+    let shares = shares(random, count.min(MOST_GAMES), allowance);
+    let (rule, limit) = (settings::rule(random), limit(random));
+    Games { records, rule, pool, limit, allowance, interval: settings::interval(random), shares }
+}
+
+/// The records of so many games. In one call of six some are damaged, in one of twenty the length is another.
+fn records(random: &mut Random, count: usize) -> Vec<u8> {
+    let mut records: Vec<[u8; LENGTH]> = Vec::new();
+    for _ in 0..count {
+        let next = match records.len() {
+            made @ 1.. if random.once_in(6) => records[random.index(made)],
+            _ => record(random),
+        };
+        records.push(next);
+    }
+    if random.once_in(6) && count > 0 {
+        for _ in 0..1 + random.below(3) {
+            records[random.index(count)] = damaged(random);
+        }
+    }
+    let mut bytes = records.concat();
+    if random.once_in(20) {
+        let length = LENGTH * random.index(count + 1);
+        bytes.resize(length + random.pick(&[1, 2, 10, 19, 20]), 0);
+    }
+    bytes
+}
+
+/// An accepted record: an ending or far on in play most often, now and then of a game that is over.
+fn record(random: &mut Random) -> [u8; LENGTH] {
+    match random.below(16) {
+        0..=7 => ending(random).write(),
+        8..=12 => late(random).write(),
+        13 => load::record(&reached(random, 81)),
+        _ => accepted(random).write(),
+    }
+}
+
+fn damaged(random: &mut Random) -> [u8; LENGTH] {
+    if random.once_in(20) {
+        any_bytes(random)
+    } else {
+        damaged_position(random).write()
+    }
+}
+
+/// A pool of so many parts and some nodes that are over.
+fn pool(random: &mut Random, games: u64) -> u64 {
+    let over = random.below(games);
+    match random.below(20) {
+        0 => over,
+        1 => games + over,
+        2..=4 => games * (1 + random.below(20)) + over,
+        5..=8 => games * (1 + random.below(FEW_NODES)) + over,
+        9..=15 => random.pick(&[1_000, 3_276, 4_095, 4_096]),
+        16..=18 => games * (1 + random.below(1_000)) + over,
+        _ => random.pick(&[10_000, 65_536, 65_537, LARGEST_POOL, LARGEST_POOL + 1, LARGEST_POOL + 2]),
+    }
+}
+
+/// Expansions for all games: as many as can be if the parts are small.
+fn allowance(random: &mut Random, part: u64) -> u64 {
+    match random.below(20) {
+        0 => random.pick(&[0, 1, 2]),
+        1 | 2 => random.below(30),
+        3..=8 => random.below(300),
+        9..=13 => random.below(1_500),
+        14 if random.once_in(8) => random.below(40_000),
+        14 => random.below(6_000),
+        15 if random.once_in(3) => random.pick(&[LARGEST_BUDGET + 1, 1 << 41, u64::MAX]),
+        _ if part <= FEW_NODES => random.pick(&[LARGEST_BUDGET, LARGEST_BUDGET - 1, 1 << 32, 100_000]),
+        _ => 1_000,
+    }
+}
+
+/// The shares of the games there are, and past them any numbers.
+fn shares(random: &mut Random, games: usize, allowance: u64) -> [u64; MOST_GAMES] {
+    let mut shares = [(); MOST_GAMES].map(|()| past(random));
+    let read = &mut shares[..games];
+    share_out(random, read, allowance);
+    if random.once_in(30) && games > 0 {
+        read[random.index(games)] = random.pick(&[LARGEST_BUDGET + 1, 1 << 63, u64::MAX]);
+    }
+    shares
+}
+
+/// A share that is not read.
+fn past(random: &mut Random) -> u64 {
+    match random.below(8) {
+        0 => random.pick(&[LARGEST_BUDGET, LARGEST_BUDGET + 1]),
+        1 => random.pick(&[1 << 63, u64::MAX]),
+        2 => random.below(1_000),
+        _ => random.below(10),
+    }
+}
+
+/// Shares of none, of few, or of about as much for each game as there is. In one call of four they sum to the allowance,
+/// and in one of twelve to one more.
+fn share_out(random: &mut Random, shares: &mut [u64], allowance: u64) {
+    let Some(even) = allowance.min(LARGEST_BUDGET).checked_div(shares.len() as u64) else { return };
+    let most = match random.below(8) {
+        0 => 0,
+        1..=3 => even.min(20),
+        4..=6 => even,
+        _ => 2 * even,
+    };
+    let mut left = allowance;
+    for share in shares.iter_mut() {
+        *share = if random.once_in(8) { 0 } else { random.below(most + 1).min(left) };
+        left -= *share;
+    }
+    let share = &mut shares[random.index(shares.len())];
+    match random.below(12) {
+        0 => *share = share.saturating_add(left).saturating_add(1),
+        1..=3 => *share += left,
+        _ => (),
+    }
+}
+
+/// A limit that few, some or no searches come to.
+fn limit(random: &mut Random) -> u64 {
+    match random.below(10) {
+        0 => random.below(3),
+        1 | 2 => random.below(60),
+        3 | 4 => random.below(400),
+        _ => u64::MAX,
+    }
+}
