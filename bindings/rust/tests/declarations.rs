@@ -11,6 +11,8 @@ const LIBRARY: &str = concat!(
     include_str!("../../../crates/ultimattt/src/book_exports.rt"),
     include_str!("../../../crates/ultimattt/src/games_exports.rt"),
 );
+/// Has the number of games that the exports name.
+const CHECKS: &str = include_str!("../../../crates/games_checks/src/lib.rt");
 const WRAPPER: &str = include_str!("../src/ffi.rs");
 const HEADER: &str = include_str!("../../../include/ultimattt.h");
 
@@ -36,6 +38,13 @@ const TYPES: [(&str, &str); 16] = [
 
 /// For each name, its parts in order.
 type Declared = BTreeMap<String, Vec<String>>;
+
+/// The exports' text, with the number of games for its name.
+fn library() -> String {
+    let (_, after) = CHECKS.split_once("const MOST_GAMES: usize = ").expect("the constant stands there");
+    let (most, _) = after.split_once(';').expect("a constant ends");
+    LIBRARY.replace("MOST_GAMES", most)
+}
 
 /// The header without comments, its types as the wrapper writes them.
 fn header() -> String {
@@ -146,7 +155,7 @@ fn c_functions(text: &str) -> Declared {
 
 #[test]
 fn structs() {
-    let library = rust_structs(LIBRARY);
+    let library = rust_structs(&library());
     assert_eq!(library.len(), 10);
     assert_eq!(rust_structs(WRAPPER), library);
     assert_eq!(c_structs(&header()), library);
@@ -154,7 +163,7 @@ fn structs() {
 
 #[test]
 fn functions() {
-    let library = rust_functions(LIBRARY, "pub extern \"C\" fn ");
+    let library = rust_functions(&library(), "pub extern \"C\" fn ");
     assert_eq!(library.len(), 10);
     assert_eq!(rust_functions(WRAPPER, "pub fn "), library);
     assert_eq!(c_functions(&header()), library);

@@ -7,13 +7,13 @@ use native.Mathlib.Nat.{div-le-self, div-mul-le-self, mul-div-cancel, mul-comm, 
 use native.Mathlib.Omega.{arith}
 use borrow.Author.Tests.{ltb-true, ltb-false}
 use lib.Dec.{ltb}
-use lib.ListN.{length, getD, drop}
+use lib.ListN.{length, getD, length-map}
 use Rattle.rules.specs.Rules.{answers}
 use Rattle.machine.specs.Machine.{Result}
 use Rattle.passes.specs.Passes.{resultAt}
 use Rattle.pn.specs.Results.{resultOf}
 use Rattle.pn.specs.declared.SearchResult.{SearchResult}
-use Rattle.calls.specs.Refusing.{refused-by, passed-all}
+use Rattle.calls.specs.Refusing.{refused-by, by-number}
 use Rattle.searches.specs.Searches.{nodes}
 use Rattle.games_checks.specs.Checks as checks
 use Rattle.games_checks.specs.Checks.{games, recordAt, refusalAt, numberRefusal, refusals, earliest, lowest, sharesOf, settingsRefusal}
@@ -27,6 +27,9 @@ use Rattle.games.specs.Answers.{outcomeOf, mapped}
 use Rattle.games.specs.Playing.{gameOf, positionsOf, Playable, FirstPassed, SecondPassed}
 use Rattle.games.specs.declared.FirstPass.{FirstPass}
 use Rattle.games.specs.declared.JudgedGames.{JudgedGames}
+
+abbrev Eight : GamesOutcome → Type 0
+Eight o = length (o .results) ≡ 8
 
 -- THE ANSWER, by the check that refuses
 module _ (bytes : List ℕ) (words : ℕ) (shares : List ℕ) (C : checks.Common) where
@@ -51,6 +54,14 @@ module _ (bytes : List ℕ) (words : ℕ) (shares : List ℕ) (C : checks.Common
       unfolding gamesCall
       call-judged e = rw (some, load, e)
 
+  -- there are eight results, games or not
+  pub eight-results : length (gamesCall bytes words shares C .results) ≡ 8
+  unfolding gamesCall
+  eight-results =
+      by-number Eight (numberRefusal bytes) _ _ (λ m e. refl)
+      (λ e. by-number Eight (earliest (refusals bytes)) _ _ (λ m e. refl)
+      (λ e. by-number Eight (settingsRefusal (nodes words) (games bytes) (sharesOf shares (games bytes)) C) _ _ (λ m e. refl) (λ e. refl)))
+
 -- a refusal leaves the pool as it was
 pub pool-refused : (r : JudgedGames) (code index n : ℕ) (w : List ℕ) → outcomeOf r ≡ refused code index → (code ≡ 0 → ⊥) → PoolAfterGames (r .code) n w w
 pool-refused r code index n w e z = go (r .code) (ap (λ (o : GamesOutcome). o .number) e)
@@ -58,6 +69,10 @@ pool-refused r code index n w e z = go (r .code) (ap (λ (o : GamesOutcome). o .
     go : (k : ℕ) → k ≡ code → PoolAfterGames k n w w
     go zero q = absurd (z (sym q))
     go (suc k) q = refl
+
+-- the parts lie within the pool
+pub parts-fit : (words n : ℕ) → n * partWords words n ≤ words
+parts-fit words n = let q = nodes words / n in omega (arith, sym (mul-assoc n q 5), ap (λ m. m * 5) (mul-comm n q), div-mul-le-self (nodes words) n)
 
 -- ALL CHECKS PASSED
 module _ (bytes w shares : List ℕ) (c : Common) (some : numberRefusal bytes ≡ 0) (load : earliest (refusals bytes) ≡ 0)
@@ -71,12 +86,6 @@ module _ (bytes w shares : List ℕ) (c : Common) (some : numberRefusal bytes �
   nodes-are : size / 5 ≡ nodes (length w) / n
   nodes-are = mul-div-cancel (nodes (length w) / n) {n = 5} (omega arith)
 
-  -- the parts lie within the pool
-  pub parts-fit : n * size ≤ length w
-  parts-fit =
-      let q = nodes (length w) / n in
-      omega (arith, sym (mul-assoc n q 5), ap (λ m. m * 5) (mul-comm n q), div-mul-le-self (nodes (length w)) n)
-
   playable : Playable bytes w shares n size c
   playable =
       let k = counted bytes some in
@@ -86,7 +95,7 @@ module _ (bytes w shares : List ℕ) (c : Common) (some : numberRefusal bytes �
           some = omega (arith, nodes-are, s .part-some);
           most = omega (arith, nodes-are, s .pool-most, div-le-self (nodes (length w)) n);
           few = k .few;
-          fits = parts-fit;
+          fits = parts-fit (length w) n;
           shared = s .shared;
           allowance-most = s .allowance-most;
           interval-some = s .interval-least;
@@ -133,8 +142,13 @@ module _ (bytes w shares : List ℕ) (c : Common) (some : numberRefusal bytes �
     second-is : SecondPassed shares (games bytes) (partWords (length w) (games bytes)) c f u v rs
     second-is = subst (λ m. SecondPassed shares (games bytes) (m / games bytes * 5) c f u v rs) e second
 
-    pub call-answered : record { number = 0; index = 0; count = games bytes; results = map resultOf rs } ≡ gamesCall bytes (length w) shares (commonOf c)
-    call-answered = answered bytes w shares c some load whole u v f rs first-is second-is
+    pub passes-answer : length u ≡ length w → length v ≡ length u
+        → (record { number = 0; index = 0; count = games bytes; results = map resultOf rs } ≡ gamesCall bytes (length w) shares (commonOf c)) × PoolAfterGames 0 (games bytes) w v
+    passes-answer a b = (
+      answered bytes w shares c some load whole u v f rs first-is second-is,
+      pool-judged bytes w shares c some load whole u v f rs first-is second-is a b,
+    )
 
-    pub pool-answered : length u ≡ length w → length v ≡ length u → PoolAfterGames 0 (games bytes) w v
-    pool-answered = pool-judged bytes w shares c some load whole u v f rs first-is second-is
+-- so the code's answer has eight
+pub results-long : (bytes : List ℕ) (words : ℕ) (shares : List ℕ) (C : checks.Common) (r : JudgedGames) → outcomeOf r ≡ gamesCall bytes words shares C → length (r .results) ≡ 8
+results-long bytes words shares C r e = sym (length-map (r .results) resultOf) ∙ ap (λ (o : GamesOutcome). length (o .results)) e ∙ eight-results bytes words shares C

@@ -8,6 +8,7 @@ ghost use Rattle.pn.specs.Results.{resultOf};
 ghost use Rattle.games_checks.specs.Checks.{games};
 ghost use Rattle.games_checks.specs.Common.{commonOf};
 ghost use Rattle.games.specs.Games.{noResult, refused, gamesCall, PoolAfterGames};
+ghost use Rattle.games.specs.GamesStatement.{GamesStatement};
 ghost use Rattle.games.specs.Answers.{outcomeOf};
 ghost use Rattle.games.specs.Playing.{Playable, FirstPassed, Halfway, SecondPassed};
 use games_checks::Common;
@@ -155,6 +156,7 @@ pub fn judge_games(
 ) -> JudgedGames
     ensures { λ r. ⌜ outcomeOf r ≡ gamesCall (now (bytes .entry)) (length (now (words .entry))) (now (shares .entry)) (commonOf c) ⌝ }
     ensures pool { λ r. ⌜ PoolAfterGames (r .code) (games (now (bytes .entry))) (now (words .entry)) (now (words .exit)) ⌝ }
+    ensures promised { λ r. ⌜ GamesStatement (now (bytes .entry)) (now (shares .entry)) (commonOf c) (now (words .entry)) (now (words .exit)) (outcomeOf r) ⌝ }
 {
     let number = games_checks::number_of_games(bytes);
     if number != 0 {

@@ -60,6 +60,9 @@ lowest number (n ∷ ns) = cond (eqb n number) 0 (suc (lowest number ns))
 abbrev pub Common : Type 0
 Common = record { rule : ℕ; limit : ℕ; allowance : ℕ; interval : ℕ }
 
+abbrev pub common : (rule limit allowance interval : ℕ) → Common
+common rule limit allowance interval = record { rule = rule; limit = limit; allowance = allowance; interval = interval }
+
 -- The shares of n games; those past the last game are not read.
 abbrev pub sharesOf : List ℕ → (n : ℕ) → List ℕ
 sharesOf shares n = answers (λ i. getD shares i 0) 0 n

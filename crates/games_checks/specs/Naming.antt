@@ -19,6 +19,14 @@ none-early f i zero e k l = absurd (omega arith)
 none-early f i (suc n) e zero l = let q : i + 0 ≡ i = omega arith in ap f q ∙ earlier-none _ _ e .0
 none-early f i (suc n) e (suc k) l = let q : i + suc k ≡ suc i + k = omega arith in ap f q ∙ none-early f (suc i) n (earlier-none _ _ e .1) k (omega arith)
 
+pub early-none : (f : ℕ → ℕ) (i n : ℕ) → ((k : ℕ) → k < n → f (i + k) ≡ 0) → earliest (answers f i n) ≡ 0
+unfolding earliest earlier
+early-none f i zero h = refl
+early-none f i (suc n) h =
+    let q : i + 0 ≡ i = omega arith in
+    let here : f i ≡ 0 = ap f (sym q) ∙ h 0 (omega arith) in
+    rw here (early-none f (suc i) n (λ k l. let s : suc i + k ≡ i + suc k = omega arith in ap f s ∙ h (suc k) (omega arith)))
+
 -- no record is refused by an earlier check
 earlier-left : (n m : ℕ) → (n ≡ 0 → ⊥) → earlier n m ≤ n
 unfolding earlier

@@ -1,13 +1,14 @@
 -- The shares, as the code adds them up: from the last game down. Rests on Checks.
-use mathlib.Core.Path.{_≡_, refl, ap, sym, _∙_, subst}
-use mathlib.Core.Bool.{Bool, true, false, true≢false, _||_}
+use mathlib.Core.Path.{_≡_, refl, sym, _∙_, subst}
+use mathlib.Core.Bool.{Bool, true, false, true≢false}
 use mathlib.Core.List.{List, [], _∷_}
-use Prim.Native.Nat.{ℕ, zero, suc, _+_, _*_, _-_, _≤_, _<_}
+use Prim.Native.Nat.{ℕ, suc, _+_, _*_, _-_, _≤_, _<_}
 use native.Mathlib.Omega.{arith}
 use borrow.Author.Tests.{lt-ltb, le-ltb}
 use lib.Dec.{ltb}
 use lib.ListN.{length, getD}
 use Rattle.rules.specs.Rules.{answers, any}
+use Rattle.rules.specs.Answers.{length-answers}
 use Rattle.passes.specs.Passes.{total}
 use Rattle.searches.specs.Searches.{budgetMost}
 use Rattle.games_checks.specs.Checks.{sharesOf}
@@ -59,8 +60,4 @@ summed-done shares n i above sum l h =
 
 -- there is room for one more
 pub summed-room : (shares : List ℕ) (n i : ℕ) (above : Bool) (sum : ℕ) → n ≤ 8 → Summed shares n i above sum → sum ≤ 8000000000000
-summed-room shares n i above sum l h = omega (arith, h .summing .most, long (λ k. getD shares k 0) i (n - i))
-  where
-    long : (f : ℕ → ℕ) (i n : ℕ) → length (answers f i n) ≡ n
-    long f i zero = refl
-    long f i (suc n) = ap suc (long f (suc i) n)
+summed-room shares n i above sum l h = omega (arith, h .summing .most, length-answers (λ k. getD shares k 0) i (n - i))

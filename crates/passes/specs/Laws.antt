@@ -14,7 +14,7 @@ pub record Bounded (g : OneGame) : Type 0 where
   pub most : (b : ℕ) → g .search b .expanded ≤ b
   pub all : (b : ℕ) → g .search b .cause ≡ 1 → g .search b .expanded ≡ b
 
--- SUMS: one more at the end, no more of fewer, and one of them
+-- SUMS: one more at the end, no more of fewer, one of them, no more of no more, and the same of the same
 pub total-last : (f : ℕ → ℕ) (i n : ℕ) → total (answers f i (suc n)) ≡ total (answers f i n) + f (i + n)
 unfolding total
 total-last f i zero = let q : i + 0 ≡ i = omega arith in omega (arith, ap f q)
@@ -33,6 +33,11 @@ pub total-most : (f g : ℕ → ℕ) → ((k : ℕ) → f k ≤ g k) → (i n : 
 unfolding total
 total-most f g h i zero = omega arith
 total-most f g h i (suc n) = omega (arith, h i, total-most f g h (suc i) n)
+
+pub total-same : (f g : ℕ → ℕ) (i n : ℕ) → ((k : ℕ) → k < i + n → f k ≡ g k) → total (answers f i n) ≡ total (answers g i n)
+unfolding total
+total-same f g i zero h = refl
+total-same f g i (suc n) h = omega (arith, h i (omega arith), total-same f g (suc i) n (λ k l. h k (omega arith)))
 
 -- ONE GAME
 module _ (g : OneGame) (h : Bounded g) (u : ℕ) where
@@ -96,3 +101,16 @@ module _ (game : ℕ → OneGame) (h : (k : ℕ) → Bounded (game k)) (a n : �
   -- THEOREM: the expansions of all games together never exceed the allowance
   pub all-within : expandedBy game a n n ≤ a
   all-within = let q : n + 0 ≡ n = omega arith in omega (arith, accounts n 0 q)
+
+-- GAMES THAT ARE ALIKE, the first n of them
+module _ (f g : ℕ → OneGame) (a n : ℕ) (same : (k : ℕ) → k < n → f k ≡ g k) where
+  unspent-alike : (i : ℕ) → i ≤ n → unspentAt f a n i ≡ unspentAt g a n i
+  unfolding unspentAt
+  unspent-alike zero l =
+      ap (λ k. a - k) (total-same (λ k. first (f k) .expanded) (λ k. first (g k) .expanded) 0 n (λ k m. ap (λ (x : OneGame). first x .expanded) (same k (omega arith))))
+  unspent-alike (suc i) l = ap (λ (x : OneGame). unspentAfter x (unspentAt f a n i)) (same i (omega arith)) ∙ ap (unspentAfter (g i)) (unspent-alike i (omega arith))
+
+  pub result-alike : (i : ℕ) → i < n → resultAt f a n i ≡ resultAt g a n i
+  result-alike i l =
+      ap (λ (x : OneGame). x .search (grantWith x (unspentAt f a n i))) (same i l)
+      ∙ ap (λ u. g i .search (grantWith (g i) u)) (unspent-alike i (omega arith))

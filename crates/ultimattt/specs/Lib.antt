@@ -3,3 +3,5 @@ pub mod Cases
 pub mod Exports
 pub mod TwoAnswers
 pub mod Exported
+pub mod GamesExports
+pub mod AllFields

@@ -141,7 +141,7 @@ pub struct ResultFields {
 }
 
 // The fields of a result.
-fn fields_of(r: SearchResult) -> ResultFields
+pub fn fields_of(r: SearchResult) -> ResultFields
     ensures { λ a. ⌜ fields a ≡ fieldsOf (resultOf r) ⌝ }
 {
     let verdict = r.verdict;
@@ -159,7 +159,7 @@ fn fields_of(r: SearchResult) -> ResultFields
 }
 
 // The fields that go with a refusal.
-fn no_fields() -> ResultFields
+pub fn no_fields() -> ResultFields
     ensures { λ a. ⌜ fields a ≡ noFields ⌝ }
 {
     ResultFields {

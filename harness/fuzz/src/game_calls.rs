@@ -3,6 +3,7 @@
 use crate::passes::Passes;
 use calls::games::MOST_GAMES;
 use calls::record::LENGTH;
+use calls::table::LARGEST_BUDGET;
 use calls::Games;
 use std::slice::from_raw_parts;
 use uttt::ffi;
@@ -57,7 +58,7 @@ impl Asked {
 
     pub unsafe fn shares_read(&self) -> Vec<u64> {
         let shares = *self.shares;
-        shares[..self.count()].to_vec()
+        shares[..self.count().min(MOST_GAMES)].to_vec()
     }
 
     /// The search of a game, in its part of the pool.
@@ -69,9 +70,8 @@ impl Asked {
     pub unsafe fn lone_in(&self, game: usize, nodes: usize, limit: u64, budget: u64) -> ffi::ResultFields {
         let words = self.words.add(NODE_WORDS * self.part() * game);
         let record = self.records.add(LENGTH * game);
-        let answer =
-            ffi::uttt_search(record, LENGTH, words, NODE_WORDS * nodes, self.rule, limit, budget, self.interval);
-        answer.result
+        let budget = budget.min(LARGEST_BUDGET);
+        ffi::uttt_search(record, LENGTH, words, NODE_WORDS * nodes, self.rule, limit, budget, self.interval).result
     }
 
     /// The answer with the passes done so, where none is refused.

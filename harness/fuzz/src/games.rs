@@ -8,6 +8,7 @@ use crate::passes::AS_DUE;
 use crate::run::{fields, kept, Answered, Lender, NODE_BYTES, WORD_BYTES};
 use crate::watch;
 use calls::record::LENGTH;
+use calls::table::games_refusal;
 use calls::{Call, Games};
 use oracle::generate::Random;
 
@@ -31,11 +32,9 @@ impl Lender {
         let in_parts = games.part() * games.count() as u64;
         let answered = self.search(call, games.pool, in_parts, line, edge, random)?;
         kept(&mut self.shares, &shares)?;
-        if answered.code == 0 {
+        if games_refusal(games).is_none() && answered.code == 0 {
             self.pool.lend(NODE_BYTES * games.part() as usize, edge, Filling::any(random));
-            let alone = self.alone(games, line);
-            let due = || format!("alone the games have {:?}, together {:?}", alone, answered.numbers);
-            return answered.numbers[1..].starts_with(&alone).then_some(answered.clone()).ok_or_else(due);
+            same(&self.alone(games, line), &answered.numbers[1..])?;
         }
         Ok(answered)
     }
@@ -54,19 +53,31 @@ impl Lender {
     }
 }
 
+/// Of each game the numbers are the same, alone and together with the others.
+fn same(alone: &[u64], together: &[u64]) -> Result<(), String> {
+    let mut results = alone.chunks(FIELDS).enumerate();
+    match results.find(|(game, result)| together.chunks(FIELDS).nth(*game) != Some(result)) {
+        None => Ok(()),
+        Some((game, result)) => {
+            let other = together.chunks(FIELDS).nth(game).unwrap_or(&[]);
+            Err(format!("game {} has {:?}, and alone with what it was granted {:?}", game, other, result))
+        }
+    }
+}
+
 /// As many results as games and zeros past them, each that of a search with no less than its share; and the allowance
 /// holds, and is spent if a budget stopped a game.
 pub fn result(games: &Games, a: &Answered) -> Result<(), String> {
-    must(a.numbers[0] == games.count() as u64, "there are as many results as games")?;
-    let (given, past) = a.numbers[1..].split_at(FIELDS * games.count());
-    must(past.iter().all(|number| *number == 0), "there are zeros past the games")?;
-    let spent: u64 = given.chunks(FIELDS).map(|result| result[EXPANDED]).sum();
+    must(a.numbers[0] == games.count() as u64, "the count is that of the games")?;
+    let results: Vec<&[u64]> = a.numbers[1..].chunks(FIELDS).collect();
+    must(results.len() == games.count(), "there are as many results as games, and zeros past them")?;
+    let spent: u64 = results.iter().map(|result| result[EXPANDED]).sum();
     must(spent <= games.allowance, "the allowance holds")?;
-    let stopped = |result: &[u64]| result[CAUSE] == 1;
-    for (result, share) in given.chunks(FIELDS).zip(games.shares) {
-        let budget = if stopped(result) { share.max(result[EXPANDED]) } else { games.allowance };
+    let is_stopped = |result: &&[u64]| result[CAUSE] == 1;
+    for (result, share) in results.iter().zip(games.shares) {
+        let budget = if is_stopped(result) { share.max(result[EXPANDED]) } else { games.allowance };
         search(result, [games.part(), games.limit, budget, games.interval])?;
     }
     let all_spent = spent == games.allowance;
-    must(all_spent || !given.chunks(FIELDS).any(stopped), "where a budget stops a game, the allowance is spent")
+    must(all_spent || !results.iter().any(is_stopped), "where a budget stops a game, the allowance is spent")
 }

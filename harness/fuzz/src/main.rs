@@ -41,7 +41,7 @@ const SECONDS: u64 = 60;
 /// A call that takes longer has not returned; a wrong library is given less.
 const A_CALL: u32 = 60;
 const A_WRONG_CALL: u32 = 2;
-const WRONG_CALLS: u64 = 5_000;
+const WRONG_CALLS: u64 = 10_000;
 
 /// How many calls gave each kind of answer.
 type Tally = BTreeMap<String, u64>;

@@ -178,9 +178,11 @@ pub fn judged(a: ffi::FullAnswer) -> Answered {
     Answered { code: a.code, index: a.index, numbers, output: vec![] }
 }
 
+/// The numbers are the count and those of the results up to the last that is not all zeros.
 pub fn judged_together(a: ffi::GamesAnswer) -> Answered {
-    let numbers = [vec![a.count], a.results.map(fields).concat()].concat();
-    Answered { code: a.code, index: a.index, numbers, output: vec![] }
+    let zeros = a.results.iter().rev().take_while(|result| **result == ffi::ResultFields::default()).count();
+    let results = a.results.into_iter().take(a.results.len() - zeros).flat_map(fields);
+    Answered { code: a.code, index: a.index, numbers: [a.count].into_iter().chain(results).collect(), output: vec![] }
 }
 
 pub fn fields(f: ffi::ResultFields) -> [u64; 9] {

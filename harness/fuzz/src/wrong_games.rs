@@ -6,7 +6,7 @@ use crate::game_calls::{games, games_then, refused, Asked, NODE_WORDS};
 use crate::passes::{Passes, AS_DUE};
 use calls::games::MOST_GAMES;
 use calls::record::LENGTH;
-use calls::table::{record_refusal, LARGEST_BUDGET, LARGEST_INTERVAL, LARGEST_POOL, LARGEST_RULE};
+use calls::table::{games_refusal, record_refusal, LARGEST_BUDGET, LARGEST_INTERVAL, LARGEST_POOL, LARGEST_RULE};
 use uttt::ffi;
 
 pub const ALL: [(&str, Exports); 45] = [
@@ -65,14 +65,16 @@ impl Asked {
         refusals.zip(0..).filter_map(|(check, game)| check.map(|check| (check, game))).collect()
     }
 
-    /// The shares of the games there are.
+    /// The sum of the shares of the games there are.
     unsafe fn sum(&self) -> u128 {
-        self.shares_read().iter().map(|share| u128::from(*share)).sum()
+        sum(&self.shares_read())
     }
 
-    /// The shares with zeros past the games, or the other way round.
-    unsafe fn shares_where(&self, kept: impl Fn(usize) -> bool) -> [u64; MOST_GAMES] {
-        std::array::from_fn(|game| if kept(game) { (*self.shares)[game] } else { 0 })
+    /// The shares with 0 for the last game.
+    unsafe fn shares_but_last(&self) -> [u64; MOST_GAMES] {
+        let mut shares = *self.shares;
+        shares[self.count() - 1] = 0;
+        shares
     }
 
     /// A second pass in which the limit is tested each time that so many expansions have followed the share.
@@ -89,6 +91,20 @@ impl Asked {
         }
         self.lone(game, granted)
     }
+}
+
+fn sum(shares: &[u64]) -> u128 {
+    shares.iter().map(|share| u128::from(*share)).sum()
+}
+
+/// A call of games that is refused with this code if that holds, where none is due.
+macro_rules! games_refused {
+    ($name:ident, |$lent:ident| $code_if:expr) => {
+        games!($name, |$lent| match (games_refusal(&$lent.call()), $code_if) {
+            (None, (code, true)) => refused(code, 0),
+            _ => $lent.judge(),
+        });
+    };
 }
 
 games!(number_first, |lent| match lent.count() {
@@ -128,25 +144,13 @@ games!(part_by_9, |lent| {
 games_then!(settings_first, |lent, a| if a.code == 8 && lent.rule > LARGEST_RULE {
     a.code = 10;
 });
-games_then!(range_of_all, |lent, a| if matches!(a.code, 0 | 20)
-    && lent.call().shares.iter().any(|s| *s > LARGEST_BUDGET)
-{
-    a = refused(10, 0);
-});
+games_refused!(range_of_all, |lent| (10, (*lent.shares).into_iter().any(|share| share > LARGEST_BUDGET)));
 games_then!(range_but_last, |lent, a| if a.code == 10 && is_in_range(lent) {
-    let last = lent.count() - 1;
-    a = lent.judge_with(lent.shares_where(|game| game != last));
+    a = lent.judge_with(lent.shares_but_last());
 });
 games!(any_allowance, |lent| Asked { allowance: lent.allowance.min(LARGEST_BUDGET), ..lent }.judge());
-games_then!(sum_of_all, |lent, a| if a.code == 0 {
-    let sum: u128 = lent.call().shares.iter().map(|share| u128::from(*share)).sum();
-    if sum > u128::from(lent.allowance) {
-        a = refused(20, 0);
-    }
-});
-games_then!(sum_below, |lent, a| if a.code == 0 && lent.sum() == u128::from(lent.allowance) {
-    a = refused(20, 0);
-});
+games_refused!(sum_of_all, |lent| (20, sum(&*lent.shares) > u128::from(lent.allowance)));
+games_refused!(sum_below, |lent| (20, lent.sum() == u128::from(lent.allowance)));
 games_then!(sum_above, |lent, a| if a.code == 20 && is_one_above(lent) {
     a = Asked { allowance: lent.allowance + 1, ..lent }.judge();
 });

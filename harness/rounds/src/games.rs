@@ -10,8 +10,7 @@ use oracle::load;
 
 /// Words of a node.
 const NODE_WORDS: usize = 5;
-/// Words of the largest pool that the library takes, and of a game's part. A new part is so large that the allocator
-/// takes pages from the system for it and gives them back, as for a whole pool.
+/// Words of the largest pool that the library takes, and of a game's part.
 pub const POOL_WORDS: usize = NODE_WORDS * LARGEST_POOL as usize;
 pub const PART_WORDS: usize = POOL_WORDS / MOST_GAMES;
 /// The original's rule, its own interval, and no limit.

@@ -1,7 +1,7 @@
 //! Instructions of eight games, counted by callgrind in processes of their own.
 
 use crate::games::{Kind, KINDS, POOL_WORDS};
-use crate::sides::{again, alone, together, Budgets, Pool};
+use crate::sides::{again, alone, together, Budgets};
 use measure::callgrind::counted;
 use std::hint::black_box;
 
@@ -13,11 +13,11 @@ pub fn choices() -> String {
     )
 }
 
-/// The one run of a process under callgrind or another profiler. All sides have parts of one pool, not touched before.
+/// The one run of a process under callgrind or another profiler. The pool is fresh.
 pub fn once(what: &str, which: &str) -> Option<()> {
     let (name, grants) = which.split_once(':').unwrap_or((which, ""));
     let games = KINDS.iter().find(|kind| kind.name == name)?.games();
-    let mut pool = Pool::Kept(vec![0; POOL_WORDS]);
+    let mut pool = vec![0; POOL_WORDS];
     let grants = grants_of(grants);
     black_box((&games, &mut pool, &grants));
     match (what, grants) {

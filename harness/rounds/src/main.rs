@@ -14,13 +14,13 @@ mod sides;
 mod timing;
 
 use calls::Games;
-use games::{Kind, KINDS};
+use games::{Kind, KINDS, POOL_WORDS};
 use measure::callgrind;
 use measure::program::Program;
-use sides::{expanded, Passes, Pool, Results, SOLVED};
+use sides::{expanded, Passes, Results, SOLVED};
 use std::process::ExitCode;
 
-const ROUNDS: usize = 15;
+const ROUNDS: usize = 41;
 
 /// Eight games and what is due.
 struct Case {
@@ -35,19 +35,20 @@ fn main() -> ExitCode {
 }
 
 fn tables(rounds: usize) -> Result<(), String> {
-    let mut pools = [Pool::Fresh, Pool::touched()];
-    let cases = KINDS.iter().map(|kind| case(kind, &mut pools[1])).collect::<Result<Vec<Case>, String>>()?;
+    let mut pool = vec![0u32; POOL_WORDS];
+    pool.fill(0xA5A5_A5A5);
+    let cases = KINDS.iter().map(|kind| case(kind, &mut pool)).collect::<Result<Vec<Case>, String>>()?;
     println!("All results are those of lone searches with the grants, in every field. {} rounds.\n", rounds);
     work_table(&cases);
     println!();
-    time_table(&cases, &mut pools, rounds)?;
+    time_table(&cases, &mut pool, rounds)?;
     println!();
-    drop(pools);
+    drop(pool);
     instruction_table(&cases)
 }
 
 /// The games, if the call gives what both passes do by lone searches.
-fn case(kind: &'static Kind, pool: &mut Pool) -> Result<Case, String> {
+fn case(kind: &'static Kind, pool: &mut [u32]) -> Result<Case, String> {
     let games = kind.games();
     let due = sides::again(&games, pool);
     let granted = sides::alone(&games, &due.grants, pool);
@@ -84,15 +85,16 @@ fn work_table(cases: &[Case]) {
     }
 }
 
-fn time_table(cases: &[Case], pools: &mut [Pool; 2], rounds: usize) -> Result<(), String> {
+fn time_table(cases: &[Case], touched: &mut [u32], rounds: usize) -> Result<(), String> {
     print!("| eight games | together ms: fresh, touched | alone ms: fresh, touched ");
     println!("| fresh | touched | searched again ms: touched |");
     println!("|---|---|---|---|---|---|");
     for Case { kind, games, due } in cases {
-        let times = timing::time(games, due, pools, rounds).map_err(|wrong| format!("{}: {}", kind.name, wrong))?;
-        let [fresh, fresh_alone, touched, touched_alone, again] = times.each;
-        print!("| {} | {:.1}, {:.1} | {:.1}, {:.1} ", kind.name, fresh, touched, fresh_alone, touched_alone);
-        println!("| {:.2} | {:.2} | {:.1} |", times.fresh, times.touched, again);
+        let times = timing::time(games, due, touched, rounds).map_err(|wrong| format!("{}: {}", kind.name, wrong))?;
+        let (fresh, touched) = (times.fresh, times.touched);
+        print!("| {} | {:.1}, {:.1} ", kind.name, fresh.together, touched.together);
+        print!("| {:.1}, {:.1} | {:.2} ", fresh.alone, touched.alone, fresh.ratio);
+        println!("| {:.2} | {:.1} |", touched.ratio, times.again);
     }
     Ok(())
 }

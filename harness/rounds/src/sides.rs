@@ -1,6 +1,6 @@
 //! Eight games judged by one call, and by lone searches.
 
-use crate::games::{PART_WORDS, POOL_WORDS};
+use crate::games::PART_WORDS;
 use calls::games::MOST_GAMES;
 use calls::record::LENGTH;
 use calls::Games;
@@ -13,57 +13,29 @@ const BUDGET: u32 = 1;
 pub type Results = [ResultFields; MOST_GAMES];
 pub type Budgets = [u64; MOST_GAMES];
 
-/// The words that a call is lent.
-pub enum Pool {
-    /// Parts of one pool that is kept; a lone search has the words that the game has in the call.
-    Kept(Vec<u32>),
-    /// Made for the call and given back after it.
-    Fresh,
-}
-
-impl Pool {
-    /// One whose pages are all written.
-    pub fn touched() -> Pool {
-        let mut words = vec![0; POOL_WORDS];
-        words.fill(0xA5A5_A5A5);
-        Pool::Kept(words)
-    }
-
-    fn lend<R>(&mut self, from: usize, count: usize, call: impl FnOnce(&mut [u32]) -> R) -> R {
-        match self {
-            Pool::Kept(words) => call(&mut words[from..from + count]),
-            Pool::Fresh => call(&mut vec![0; count]),
-        }
-    }
-}
-
-/// All eight by one call.
-pub fn together(games: &Games, pool: &mut Pool) -> Results {
+/// All eight by one call, which is lent a whole pool.
+pub fn together(games: &Games, pool: &mut [u32]) -> Results {
     let Games { records, rule, limit, allowance, interval, shares, .. } = games;
+    let (from, bytes, to, length) = (records.as_ptr(), records.len(), pool.as_mut_ptr(), pool.len());
     // SAFETY: pointers and lengths belong together, and the buffers are apart.
-    let answer = pool.lend(0, POOL_WORDS, |words| unsafe {
-        let (to, length) = (words.as_mut_ptr(), words.len());
-        let (from, bytes) = (records.as_ptr(), records.len());
-        ffi::uttt_judge_games(from, bytes, to, length, shares, *rule, *limit, *allowance, *interval)
-    });
+    let answer =
+        unsafe { ffi::uttt_judge_games(from, bytes, to, length, shares, *rule, *limit, *allowance, *interval) };
     assert_eq!((answer.code, answer.index, answer.count), (0, 0, MOST_GAMES as u64), "the games were refused");
     answer.results
 }
 
-/// Eight lone searches with these budgets.
-pub fn alone(games: &Games, budgets: &Budgets, pool: &mut Pool) -> Results {
+/// Eight lone searches with these budgets, each with the words that its game has in the call.
+pub fn alone(games: &Games, budgets: &Budgets, pool: &mut [u32]) -> Results {
     std::array::from_fn(|game| lone(games, game, budgets[game], pool))
 }
 
-/// A lone search of one game in its part.
-fn lone(games: &Games, game: usize, budget: u64, pool: &mut Pool) -> ResultFields {
+fn lone(games: &Games, game: usize, budget: u64, pool: &mut [u32]) -> ResultFields {
     let record = &games.records[LENGTH * game..LENGTH * (game + 1)];
+    let part = &mut pool[PART_WORDS * game..PART_WORDS * (game + 1)];
     let Games { rule, limit, interval, .. } = *games;
+    let (from, bytes, to, length) = (record.as_ptr(), record.len(), part.as_mut_ptr(), part.len());
     // SAFETY: pointers and lengths belong together, and the buffers are apart.
-    let answer = pool.lend(PART_WORDS * game, PART_WORDS, |words| unsafe {
-        let (to, length) = (words.as_mut_ptr(), words.len());
-        ffi::uttt_search(record.as_ptr(), record.len(), to, length, rule, limit, budget, interval)
-    });
+    let answer = unsafe { ffi::uttt_search(from, bytes, to, length, rule, limit, budget, interval) };
     assert_eq!(answer.code, 0, "a game was refused");
     answer.result
 }
@@ -79,7 +51,7 @@ pub struct Passes {
 }
 
 /// Both passes by lone searches: a game that goes on in the second is searched again from its start.
-pub fn again(games: &Games, pool: &mut Pool) -> Passes {
+pub fn again(games: &Games, pool: &mut [u32]) -> Passes {
     let first = alone(games, &games.shares, pool);
     let (mut grants, mut results, mut done) = (games.shares, first, expanded(&first));
     let mut unspent = games.allowance - done;

@@ -1,6 +1,7 @@
-//! Rounds of the same games on all sides, one after the other in one process.
+//! Rounds of the same games on both sides, one after the other in one process.
 
-use crate::sides::{again, alone, together, Passes, Pool};
+use crate::games::POOL_WORDS;
+use crate::sides::{again, alone, together, Passes, Results};
 use calls::Games;
 use measure::{by_turns, spread, Spread};
 use std::time::Instant;
@@ -12,36 +13,36 @@ enum Side {
     Again,
 }
 
-/// Which pool of two a side is lent.
-const FRESH: usize = 0;
-const TOUCHED: usize = 1;
+#[derive(Clone, Copy)]
+enum Pool {
+    /// Made and given back within the timing, one for all eight games on either side.
+    Fresh,
+    /// Written from end to end before.
+    Touched,
+}
 
-const RUNS: [(Side, usize); 5] = [
-    (Side::Together, FRESH),
-    (Side::Alone, FRESH),
-    (Side::Together, TOUCHED),
-    (Side::Alone, TOUCHED),
-    (Side::Again, TOUCHED),
-];
-
+/// Milliseconds, the medians.
 pub struct Times {
-    /// Milliseconds, the medians: together and alone with fresh pools, together, alone and searched again with touched
-    /// ones.
-    pub each: [f64; 5],
+    pub fresh: Both,
+    pub touched: Both,
+    /// Both passes by lone searches, with a touched pool.
+    pub again: f64,
+}
+
+pub struct Both {
+    pub together: f64,
+    pub alone: f64,
     /// The time of the lone searches over that of the call in the same round.
-    pub fresh: Spread,
-    pub touched: Spread,
+    pub ratio: Spread,
 }
 
 /// Runs one round more than `rounds`; the first is not counted. All runs must give the results that are due.
-pub fn time(games: &Games, due: &Passes, pools: &mut [Pool; 2], rounds: usize) -> Result<Times, String> {
-    let one = |(side, pool): (Side, usize)| {
-        let pool = &mut pools[pool];
+pub fn time(games: &Games, due: &Passes, touched: &mut [u32], rounds: usize) -> Result<Times, String> {
+    let mut one = |side: Side, pool: Pool| {
         let start = Instant::now();
-        let results = match side {
-            Side::Together => together(games, pool),
-            Side::Alone => alone(games, &due.grants, pool),
-            Side::Again => again(games, pool).results,
+        let results = match pool {
+            Pool::Fresh => run(side, games, due, &mut vec![0; POOL_WORDS]),
+            Pool::Touched => run(side, games, due, touched),
         };
         let seconds = start.elapsed().as_secs_f64();
         if results == due.results {
@@ -50,12 +51,30 @@ pub fn time(games: &Games, due: &Passes, pools: &mut [Pool; 2], rounds: usize) -
             Err(format!("{:?}: the results differ", side))
         }
     };
-    let all = by_turns(rounds + 1, &RUNS, one)?;
-    let counted = &all[1..];
-    let ratio = |over, under| spread(counted.iter().map(|round| round[over] / round[under]).collect());
+    let mut all = |sides: &[Side], pool| by_turns(rounds + 1, sides, |side| one(side, pool));
     Ok(Times {
-        each: std::array::from_fn(|run| spread(counted.iter().map(|round| round[run]).collect()).1),
-        fresh: ratio(1, 0),
-        touched: ratio(3, 2),
+        fresh: both(&all(&[Side::Together, Side::Alone], Pool::Fresh)?[1..]),
+        touched: both(&all(&[Side::Together, Side::Alone], Pool::Touched)?[1..]),
+        again: median(&all(&[Side::Again], Pool::Touched)?[1..], 0),
     })
+}
+
+fn run(side: Side, games: &Games, due: &Passes, pool: &mut [u32]) -> Results {
+    match side {
+        Side::Together => together(games, pool),
+        Side::Alone => alone(games, &due.grants, pool),
+        Side::Again => again(games, pool).results,
+    }
+}
+
+fn both(rounds: &[Vec<f64>]) -> Both {
+    Both {
+        together: median(rounds, 0),
+        alone: median(rounds, 1),
+        ratio: spread(rounds.iter().map(|round| round[1] / round[0]).collect()),
+    }
+}
+
+fn median(rounds: &[Vec<f64>], side: usize) -> f64 {
+    spread(rounds.iter().map(|round| round[side]).collect()).1
 }

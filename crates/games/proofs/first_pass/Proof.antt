@@ -99,7 +99,7 @@ first-requires c κs =
 sub-unspent : tie.Need-sub-unspent Inv-loop μ-loop
 sub-unspent c =
     let r = c .before .before .before .before .before in
-    unspent-enough (at r .loop .inv) (turn r .loop-test .taken) _ _ (r .first .kept .1 .0) 
+    unspent-enough (at r .loop .inv) (turn r .loop-test .taken) _ _ (r .first .kept .1 .0)
     (r .first .ensures .1 _ (record-holds (at r .loop .inv .from) _ _ _ (turn r .loop-test .taken) (load r .load .ensures .0) (load r .load .ensures .1)) (first-accepted (at r .loop .inv) (turn r .loop-test .taken)))
 
 mul-kept : tie.Need-mul-kept Inv-loop μ-loop
@@ -125,7 +125,7 @@ loop-less c =
 loop-again : tie.Need-loop-again Inv-loop μ-loop
 loop-again c =
     let r = c .before .before .before .before .before in
-    first-next (at r .loop .inv) (turn r .loop-test .taken) _ _ (r .first .kept .1 .0) 
+    first-next (at r .loop .inv) (turn r .loop-test .taken) _ _ (r .first .kept .1 .0)
     (r .first .ensures .1 _ (record-holds (at r .loop .inv .from) _ _ _ (turn r .loop-test .taken) (load r .load .ensures .0) (load r .load .ensures .1)) (first-accepted (at r .loop .inv) (turn r .loop-test .taken))) _ (r .first .ensures .0) _ (omega arith)
 
 same-length : tie.Need-same-length Inv-loop μ-loop

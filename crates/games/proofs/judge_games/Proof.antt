@@ -5,7 +5,8 @@ use native.Mathlib.Omega.{arith}
 use Rattle.games_checks.specs.Checks.{games, sharesOf, settingsRefusal}
 use Rattle.games_checks.specs.Common.{commonOf}
 use Rattle.games_checks.specs.Passing.{counted}
-use Rattle.games.specs.Calling.{call-number, call-record, call-settings, pool-refused, to-play, call-answered, pool-answered}
+use Rattle.games.specs.Calling.{call-number, call-record, call-settings, to-play, passes-answer}
+use Rattle.games.specs.Promising.{keeps, keeps-refused}
 use borrow.Author.Needs.{needs}
 use Rattle.games.proofs.judge_games.Statement.{statement}
 use Rattle.games.proofs.judge_games.Tie as tie
@@ -33,10 +34,9 @@ returns : tie.Need-returns
 returns c =
     let r = c .before .before in
     let a = call r .args in
-    let z = c .before .if1 .taken in (
-      c .refuse .ensures ∙ call-number (a .bytes .now) _ (a .shares .now) (commonOf (a .c)) _ (r .number-of-games .ensures) z,
-      pool-refused (c .refuse .result) _ _ (games (a .bytes .now)) (a .words .now) (c .refuse .ensures) z,
-    )
+    let z = c .before .if1 .taken in
+    keeps-refused (a .bytes .now) (a .shares .now) (commonOf (a .c)) (a .words .now) (c .refuse .result) _ _ (c .refuse .ensures)
+    (call-number (a .bytes .now) _ (a .shares .now) (commonOf (a .c)) _ (r .number-of-games .ensures) z) z
 
 earliest-requires : tie.Need-earliest-requires
 earliest-requires c κs =
@@ -52,11 +52,9 @@ returns-2 c =
     let e = c .before .before .before in
     let r = number e in
     let a = call r .args in
-    let z = c .before .if2 .taken in (
-      c .refuse2 .ensures
-          ∙ call-record (a .bytes .now) _ (a .shares .now) (commonOf (a .c)) (sym (r .number-of-games .ensures) ∙ e .before .if1 .left) _ _ (e .earliest .ensures) z,
-      pool-refused (c .refuse2 .result) _ _ (games (a .bytes .now)) (a .words .now) (c .refuse2 .ensures) z,
-    )
+    let z = c .before .if2 .taken in
+    keeps-refused (a .bytes .now) (a .shares .now) (commonOf (a .c)) (a .words .now) (c .refuse2 .result) _ _ (c .refuse2 .ensures)
+    (call-record (a .bytes .now) _ (a .shares .now) (commonOf (a .c)) (sym (r .number-of-games .ensures) ∙ e .before .if1 .left) _ _ (e .earliest .ensures) z) z
 
 capacity-requires : tie.Need-capacity-requires
 capacity-requires c κs = search needs
@@ -80,13 +78,12 @@ returns-3 c =
     let e = early (t .before) in
     let r = number e in
     let a = call r .args in
-    let z = c .before .if3 .taken in (
-      c .refuse3 .ensures
-          ∙ call-settings (a .bytes .now) _ (a .shares .now) (commonOf (a .c)) (sym (r .number-of-games .ensures) ∙ e .before .if1 .left)
-          (sym (e .earliest .ensures .code-is) ∙ t .before .before .before .if2 .left) _
-          (t .settings .ensures ∙ ap (λ k. settingsRefusal k (games (a .bytes .now)) (sharesOf (a .shares .now) (games (a .bytes .now))) (commonOf (a .c))) (t .before .capacity .ensures)) z,
-      pool-refused (c .refuse3 .result) _ _ (games (a .bytes .now)) (a .words .now) (c .refuse3 .ensures) z,
-    )
+    let z = c .before .if3 .taken in
+    keeps-refused (a .bytes .now) (a .shares .now) (commonOf (a .c)) (a .words .now) (c .refuse3 .result) _ _ (c .refuse3 .ensures)
+    (call-settings (a .bytes .now) _ (a .shares .now) (commonOf (a .c)) (sym (r .number-of-games .ensures) ∙ e .before .if1 .left)
+    (sym (e .earliest .ensures .code-is) ∙ t .before .before .before .if2 .left) _
+    (t .settings .ensures ∙ ap (λ k. settingsRefusal k (games (a .bytes .now)) (sharesOf (a .shares .now) (games (a .bytes .now))) (commonOf (a .c))) (t .before .capacity .ensures)) z)
+    z
 
 div-size : tie.Need-div-size
 div-size c =
@@ -126,11 +123,10 @@ returns-4 c =
     let some = sym (r .number-of-games .ensures) ∙ e .before .if1 .left in
     let load = sym (e .earliest .ensures .code-is) ∙ sized t .before .before .if2 .left in
     let fine = sym (t .before .settings .ensures) ∙ t .if3 .left in
-    (
-      call-answered (a .bytes .now) (a .words .now) (a .shares .now) (a .c) some load _ (sized t .capacity .ensures) fine _ _ _ _ (first .first-pass .ensures) (second .second-pass .ensures),
-      pool-answered (a .bytes .now) (a .words .now) (a .shares .now) (a .c) some load _ (sized t .capacity .ensures) fine _ _ _ _ (first .first-pass .ensures) (second .second-pass .ensures)
-          (first .first-pass .kept .1 .0) (second .second-pass .kept .0),
-    )
+    let passes = passes-answer (a .bytes .now) (a .words .now) (a .shares .now) (a .c) some load _ (sized t .capacity .ensures) fine _ _ _ _ (first .first-pass .ensures)
+    (second .second-pass .ensures) (first .first-pass .kept .1 .0) (second .second-pass .kept .0) in
+    keeps (a .bytes .now) (a .shares .now) (commonOf (a .c)) (a .words .now) (second .second-pass .last .0)
+    (record { code = 0; index = 0; count = games (a .bytes .now); results = second .second-pass .result }) (passes .0) (passes .1)
 
 pub judge-games-spec : {M : Type 1} → statement M
 judge-games-spec =

@@ -5,14 +5,17 @@ use super::damaged::{any_bytes, damaged_position};
 use super::positions::{accepted, ending, late, reached};
 use super::random::Random;
 use super::settings;
+use crate::games::lone;
 use crate::load;
 use calls::games::MOST_GAMES;
 use calls::record::LENGTH;
-use calls::table::{LARGEST_BUDGET, LARGEST_POOL};
+use calls::table::{games_refusal, LARGEST_BUDGET, LARGEST_POOL};
 use calls::Games;
 
 /// Up to so many nodes of a part a search comes to an end soon, whatever it may spend.
 const FEW_NODES: u64 = 200;
+/// What a game takes is looked for up to so many expansions.
+const MOST_TAKEN: u64 = 500;
 
 pub fn games(random: &mut Random) -> Games {
     let count = match random.below(16) {
@@ -28,7 +31,11 @@ pub fn games(random: &mut Random) -> Games {
     let allowance = allowance(random, pool / count.max(1) as u64);
     let shares = shares(random, count.min(MOST_GAMES), allowance);
     let (rule, limit) = (settings::rule(random), limit(random));
-    Games { records, rule, pool, limit, allowance, interval: settings::interval(random), shares }
+    let mut games = Games { records, rule, pool, limit, allowance, interval: settings::interval(random), shares };
+    if random.once_in(3) && games_refusal(&games).is_none() {
+        near_what_is_taken(random, &mut games);
+    }
+    games
 }
 
 /// The records of so many games. In one call of six some are damaged, in one of twenty the length is another.
@@ -101,6 +108,22 @@ fn allowance(random: &mut Random, part: u64) -> u64 {
     }
 }
 
+/// About as many expansions for all games as they take alone, and shares that are about as many as each of them takes.
+fn near_what_is_taken(random: &mut Random, games: &mut Games) {
+    let taken: Vec<u64> = (0..games.count()).map(|game| lone(games, game, MOST_TAKEN).expanded).collect();
+    let all: u64 = taken.iter().sum();
+    games.allowance = match random.below(4) {
+        0 => all + random.below(2),
+        1 => all.saturating_sub(1),
+        _ => all - random.below(all.min(100) + 1),
+    };
+    let mut left = games.allowance;
+    for (share, taken) in games.shares.iter_mut().zip(taken) {
+        *share = random.pick(&[0, taken / 2, taken.saturating_sub(1), taken, taken + 1, 2 * taken]).min(left);
+        left -= *share;
+    }
+}
+
 /// The shares of the games there are, and past them any numbers.
 fn shares(random: &mut Random, games: usize, allowance: u64) -> [u64; MOST_GAMES] {
     let mut shares = [(); MOST_GAMES].map(|()| past(random));
@@ -149,8 +172,8 @@ fn share_out(random: &mut Random, shares: &mut [u64], allowance: u64) {
 fn limit(random: &mut Random) -> u64 {
     match random.below(10) {
         0 => random.below(3),
-        1 | 2 => random.below(60),
-        3 | 4 => random.below(400),
+        1..=3 => random.below(60),
+        4 | 5 => random.below(300),
         _ => u64::MAX,
     }
 }
