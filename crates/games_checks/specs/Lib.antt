@@ -1,5 +1,6 @@
--- The definitions of the checks, then their laws.
+-- The definitions of the checks, computed cases, then their laws.
 pub mod Checks
+pub mod Cases
 pub mod Common
 pub mod Earliest
 pub mod Sums

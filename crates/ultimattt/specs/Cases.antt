@@ -1,5 +1,5 @@
 -- The cases of MANUAL, Positions to try, that are proved from the definitions, in one lemma, with ours. Rests on Calls and Searches, on plain's Cases
--- for the records E, W and D and for the plain machine's results, on RoomCases and on the Cases of sheets, book and cells.
+-- for the records E, W and D and for the plain machine's results, on RoomCases, GamesCases, and on the Cases of sheets, book, passes, games_checks and cells.
 use mathlib.Core.Path.{_≡_, refl}
 use mathlib.Core.List.{List, [], _∷_, _++_}
 use Prim.Native.Nat.{ℕ}
@@ -15,6 +15,7 @@ use Rattle.plain.specs.Cases.{record21, E, W, D, fields, starred}
 use Rattle.plain.specs.Oracle.{last-x}
 use Rattle.referee.specs.OpenCells.{openCells}
 use Rattle.calls.specs.Calls.{replayOutcome, refereeOutcome, afterMoves, outputRefusal, replayCall, movesCall, refereeRefusal, refereeCall}
+use Rattle.passes.specs.Cases.{PassesCases, passes-cases}
 use Rattle.book.specs.Cases.{BookCases, book-cases}
 use Rattle.book.specs.TrainerCases.{TrainerCases, trainer-cases}
 use Rattle.cells.specs.Cases.{WordsCases, words-cases}
@@ -22,6 +23,8 @@ use Rattle.sheets.specs.Cases.{SheetsCases, sheets-cases}
 use Rattle.searches.specs.SearchAnswers.{search-answered, full-with}
 use Rattle.searches.specs.StepThree.{pool, judging}
 use Rattle.searches.specs.Searches.{Limits, nodes, settings, searchRefusal, Refused, Answered, searchCall, fullOf, Draw, AtLeastDraw, Full, Turned, fullCall}
+use Rattle.games_checks.specs.Cases.{ChecksCases, checks-cases}
+use Rattle.ultimattt.specs.GamesCases.{GamesCases, games-cases}
 use Rattle.ultimattt.specs.RoomCases as room-cases
 use Rattle.ultimattt.specs.RoomCases.{short-at-once, RoomAnswers, room-answers}
 
@@ -95,6 +98,10 @@ pub record Cases : Type 0 where
   -- a book of verdicts: the cases of crate book
   pub book : BookCases
   pub trainers : TrainerCases
+  -- eight games: the two passes, the checks and the call
+  pub passes : PassesCases
+  pub games-checks : ChecksCases
+  pub games : GamesCases
   -- a record's three words: the cases of crate cells; E with 03 32 and with 32, which take cell 29, and code 3 there
   pub words : WordsCases
   pub O-29 : replayCall E (0x03 ∷ 0x32 ∷ []) out21 ≡ replayOutcome 0 0 (record21 0x100800000000000100000000000000000000000000)
@@ -142,6 +149,9 @@ cases = record {
   sheets = sheets-cases;
   book = book-cases;
   trainers = trainer-cases;
+  passes = passes-cases;
+  games-checks = checks-cases;
+  games = games-cases;
   words = words-cases;
   O-29 = refl;
   X-29 = refl;

@@ -1,4 +1,5 @@
 pub mod RoomCases
+pub mod GamesCases
 pub mod Cases
 pub mod Exports
 pub mod TwoAnswers

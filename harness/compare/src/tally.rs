@@ -55,5 +55,5 @@ fn how_far_they_went(call: &Call, results: &[Fields]) -> String {
         1 => "one",
         _ => "several",
     };
-    format!("{} games, {} past its share", results.len(), further)
+    format!("games: {}, past their shares: {}", results.len(), further)
 }

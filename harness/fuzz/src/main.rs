@@ -189,7 +189,7 @@ fn kind(call: &Call, a: &Answered) -> String {
         Call::Full { .. } => format!("verdict {}, causes {} and {}", a.numbers[0], a.numbers[9], a.numbers[18]),
         Call::Referee { .. } => format!("value {}", a.numbers[0]),
         Call::Book(line) => books::outcome(line, a),
-        Call::Games(_) => format!("{} games", a.numbers[0]),
+        Call::Games(_) => format!("games: {}", a.numbers[0]),
         Call::Moves { .. } | Call::Sheets { .. } if a.numbers[0] == 0 => "none".to_string(),
         _ => "answered".to_string(),
     };

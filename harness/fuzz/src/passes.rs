@@ -18,10 +18,10 @@ pub struct Passes {
 }
 
 pub const AS_DUE: Passes = Passes {
-    unspent: |allowance, _, results| allowance - results.iter().map(|result| result.expanded).sum::<u64>(),
+    unspent: |allowance, _, results| allowance.saturating_sub(results.iter().map(|result| result.expanded).sum()),
     goes_on: |cause| cause == 1,
     granted: |share, unspent| share + unspent,
-    left: |_, granted, expanded| granted - expanded,
+    left: |_, granted, expanded| granted.saturating_sub(expanded),
     backwards: false,
 };
 

@@ -4,8 +4,8 @@
 //! no referee and no agreed opening: the first is two of its searches and a name of our own (`full`), the
 //! others are our own exhaustive value (`value`) and our own reading of two lists (`opening`) over its moves.
 //! Nor has it a book: lookup, add and publish are written a second time here, plainly and apart from the proved
-//! code (`book_call`), over the book of `calls::book` and the original's searches (`search`). So are games that are judged
-//! together (`games`).
+//! code (`book_call`), over the book of `calls::book` and the original's searches (`search`). So are games that
+//! are judged together (`games`).
 
 use crate::game::{Game, GameState, Move, MoveError, Player};
 use crate::games;

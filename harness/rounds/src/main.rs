@@ -51,9 +51,8 @@ fn tables(rounds: usize) -> Result<(), String> {
 fn case(kind: &'static Kind, pool: &mut [u32]) -> Result<Case, String> {
     let games = kind.games();
     let due = sides::again(&games, pool);
-    let granted = sides::alone(&games, &due.grants, pool);
     let found = sides::together(&games, pool);
-    if found != due.results || granted != due.results {
+    if found != due.results {
         return Err(format!("{}:\n{}\nlone searches:\n{}", kind.name, shown(&found), shown(&due.results)));
     }
     Ok(Case { kind, games, due })
@@ -72,15 +71,8 @@ fn work_table(cases: &[Case]) {
         let both = [&due.first, &due.results];
         let [solved, in_all] = both.map(|results| results.iter().filter(|r| r.cause == SOLVED).count());
         let [first, all] = both.map(expanded);
-        print!(
-            "| {}: {} | {} | {} | {}, {} ",
-            kind.name,
-            kind.what,
-            kind.share,
-            kind.allowance,
-            solved,
-            in_all - solved
-        );
+        print!("| {}: {} | {} | {} ", kind.name, kind.what, kind.share, kind.allowance);
+        print!("| {}, {} ", solved, in_all - solved);
         println!("| {}, {}, {} | {} |", first, all - first, all, due.done);
     }
 }

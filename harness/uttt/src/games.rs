@@ -1,5 +1,5 @@
-//! Games judged together by the proved library. An answer comes back only if what was lent is as it was but for the words
-//! of the parts, and if there are zeros where no result is due.
+//! Games judged together by the proved library. An answer comes back only if what was lent is as it was but for the
+//! words of the parts, and if there are zeros where no result is due.
 
 use crate::ours::{fields, same, settings_refusal};
 use crate::{ffi, pool};
@@ -26,8 +26,8 @@ pub fn answer(call: &Games, pattern: u8) -> Result<Answer, String> {
     read(&answered)
 }
 
-/// The shares between two words that hold the pattern. Of those past the games nothing is read: under the second pattern
-/// other numbers stand there.
+/// The shares between two words that hold the pattern. Those past the games are not read: under the second pattern other
+/// numbers stand there.
 fn shares_between_margins(call: &Games, pattern: u8) -> [u64; MOST_GAMES + 2] {
     let mut lent = [u64::from_ne_bytes([pattern; 8]); MOST_GAMES + 2];
     let turned = |game: usize| pattern >> 7 == 1 && game >= call.count();

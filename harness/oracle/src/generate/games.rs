@@ -1,5 +1,5 @@
-//! Games that are judged together: none to ten of them, some with the same record or with damaged ones, parts of the pool
-//! that are too small and others, and shares that spend the allowance, leave of it for a second pass, or are too much.
+//! Games that are judged together: none to ten of them, some with one record or with damaged ones, parts of the pool
+//! that are too small and others, and shares that spend the allowance, leave some for a second pass, or are too much.
 
 use super::damaged::{any_bytes, damaged_position};
 use super::positions::{accepted, ending, late, reached};
@@ -145,8 +145,8 @@ fn past(random: &mut Random) -> u64 {
     }
 }
 
-/// Shares of none, of few, or of about as much for each game as there is. In one call of four they sum to the allowance,
-/// and in one of twelve to one more.
+/// Shares of none, of few, or of about as much for each game as there is. In one call of four they sum to the
+/// allowance, and in one of twelve to one more.
 fn share_out(random: &mut Random, shares: &mut [u64], allowance: u64) {
     let Some(even) = allowance.min(LARGEST_BUDGET).checked_div(shares.len() as u64) else { return };
     let most = match random.below(8) {
