@@ -109,7 +109,7 @@ module _ (bytes w shares : List ℕ) (c : Common) (some : numberRefusal bytes �
   abbrev result : ℕ → Result
   result i = resultAt (gameAt bytes (length w) shares (commonOf c)) (c .allowance) n i
 
-  module _ (u v : List ℕ) (f : FirstPass) (rs : List SearchResult) (first : FirstPassed bytes shares n size c w u f) (second : SecondPassed shares n size c f u v rs) where
+  module _ (u v : List ℕ) (f : FirstPass) (rs : List SearchResult) (first : FirstPassed bytes shares n size c w u f) (second : SecondPassed shares n size c (f .kept) (f .unspent) u v rs) where
     each-is : (k : ℕ) → k < 8 → (d : SearchResult) (b : Bool) → ltb k n ≡ b → resultOf (getD rs k d) ≡ cond b (result k) noResult
     each-is k l d true e = second .results (positionsOf bytes) (first .half) k (ltb-true k n e) d
     each-is k l d false e = second .nothing k (ltb-false k n e) l d
@@ -135,12 +135,12 @@ module _ (bytes w shares : List ℕ) (c : Common) (some : numberRefusal bytes �
   to-play = subst (λ m. Playable bytes w shares (games bytes) (m / games bytes * 5) c) (sym e) (playable bytes w shares c some load whole)
 
   module _ (u v : List ℕ) (f : FirstPass) (rs : List SearchResult) (first : FirstPassed bytes shares (games bytes) (k / games bytes * 5) c w u f)
-      (second : SecondPassed shares (games bytes) (k / games bytes * 5) c f u v rs) where
+      (second : SecondPassed shares (games bytes) (k / games bytes * 5) c (f .kept) (f .unspent) u v rs) where
     first-is : FirstPassed bytes shares (games bytes) (partWords (length w) (games bytes)) c w u f
     first-is = subst (λ m. FirstPassed bytes shares (games bytes) (m / games bytes * 5) c w u f) e first
 
-    second-is : SecondPassed shares (games bytes) (partWords (length w) (games bytes)) c f u v rs
-    second-is = subst (λ m. SecondPassed shares (games bytes) (m / games bytes * 5) c f u v rs) e second
+    second-is : SecondPassed shares (games bytes) (partWords (length w) (games bytes)) c (f .kept) (f .unspent) u v rs
+    second-is = subst (λ m. SecondPassed shares (games bytes) (m / games bytes * 5) c (f .kept) (f .unspent) u v rs) e second
 
     pub passes-answer : length u ≡ length w → length v ≡ length u
         → (record { number = 0; index = 0; count = games bytes; results = map resultOf rs } ≡ gamesCall bytes (length w) shares (commonOf c)) × PoolAfterGames 0 (games bytes) w v

@@ -12,15 +12,14 @@ use Rattle.rules.specs.Record.{Accepted, refusal, positionOf}
 use Rattle.rules.specs.Checks.{loads, loads-accepted}
 use Rattle.game.specs.Words.{Holds}
 use Rattle.words.specs.Words.{capacity}
-use Rattle.words.specs.Freeing.{plies}
 use Rattle.passes.specs.Passes.{total, first, spent, unspentAt}
 use Rattle.passes.specs.Laws.{Bounded, total-last, total-one, spent-within}
 use Rattle.pn.specs.Going.{Ranges}
 use Rattle.pn.specs.Searches.{Searchable}
+use Rattle.pn.specs.Keeping.{Stopped}
+use Rattle.pn.specs.declared.Kept.{Kept}
 use Rattle.resume.specs.Lone.{lone, lone-bounded}
-use Rattle.resume.specs.Keeping.{Stopped}
 use Rattle.resume.specs.Passing.{first-expanded}
-use Rattle.resume.specs.declared.Kept.{Kept}
 use Rattle.games_checks.specs.Checks.{recordAt, refusalAt}
 use Rattle.games_checks.specs.declared.Common.{Common}
 use Rattle.games.specs.Parts.{cut, next-part, cut-put, cut-before, drop-after}
@@ -75,7 +74,7 @@ module _ {bytes w₀ shares : List ℕ} {n size : ℕ} {c : Common} (g : Playabl
   record-holds i code q l e h = subst (λ b. Holds (positionOf b) q 0) (record-cut i) (h (e ∙ ap refusal (record-cut i) ∙ g .loads i l))
 
 -- game i
-module _ {bytes w₀ shares : List ℕ} {n size : ℕ} {c : Common} {w todo : List ℕ} {kept : List Kept} {u i : ℕ} (h : First bytes w₀ shares n size c w todo kept u i) (l : i < n) where
+module _ {bytes w₀ shares : List ℕ} {n size : ℕ} {c : Common} {w : List ℕ} {kept : List Kept} {u i : ℕ} (h : First bytes w₀ shares n size c w kept u i) (l : i < n) where
   pub to-first : (q : List ℕ) → Holds (positionsOf bytes i) q 0 → Searchable q (cut (i * size) (i * size + size) w) (settingsOf c (getD shares i 0))
   to-first q holds =
       let r = part-ranges (h .from .shaped) w (h .long) i l in
@@ -112,10 +111,9 @@ module _ {bytes w₀ shares : List ℕ} {n size : ℕ} {c : Common} {w todo : Li
     part-same m lm =
         cut-before (i * size) (i * size + size) w v (omega arith) (part-fits (h .from .shaped) w (h .long) i l) v-long (m * size) (m * size + size) (omega arith) (next-part m i size lm)
 
-    pub first-next : (todo′ : List ℕ) → length todo′ ≡ plies → (j : ℕ) → j ≡ suc i → First bytes w₀ shares n size c w′ todo′ (set kept i k) (u - k .running .prover .expanded) j
-    first-next todo′ room j ej = record {
+    pub first-next : (j : ℕ) → j ≡ suc i → First bytes w₀ shares n size c w′ (set kept i k) (u - k .running .prover .expanded) j
+    first-next j ej = record {
       from = h .from;
-      room = room;
       low = omega arith;
       long = same-len-mid (i * size) (i * size + size - i * size) w v long ∙ h .long;
       kept-long = length-set kept i k ∙ h .kept-long;
@@ -138,12 +136,11 @@ module _ {bytes w₀ shares : List ℕ} {n size : ℕ} {c : Common} {w todo : Li
                 (subst (λ z. Stopped (positionsOf bytes m) (settingsOf c (getD shares m 0)) z (getD kept m d)) (sym (part-same m (omega arith))) (h .each m (omega arith) d))
 
 -- the pass begins, and ends between the passes
-pub first-start : (bytes w shares : List ℕ) (n size : ℕ) (c : Common) (todo : List ℕ) (kept : List Kept) → length todo ≡ plies → length kept ≡ 8 → Playable bytes w shares n size c
-    → First bytes w shares n size c w todo kept (c .allowance) 0
+pub first-start : (bytes w shares : List ℕ) (n size : ℕ) (c : Common) (kept : List Kept) → length kept ≡ 8 → Playable bytes w shares n size c
+    → First bytes w shares n size c w kept (c .allowance) 0
 unfolding total
-first-start bytes w shares n size c todo kept room long g = record {
+first-start bytes w shares n size c kept long g = record {
   from = g;
-  room = room;
   low = omega arith;
   long = refl;
   kept-long = long;
@@ -152,10 +149,10 @@ first-start bytes w shares n size c todo kept room long g = record {
   past = refl;
 }
 
-pub first-done : (bytes w₀ shares : List ℕ) (n size : ℕ) (c : Common) (w todo : List ℕ) (kept : List Kept) (u i : ℕ) → n ≤ i → First bytes w₀ shares n size c w todo kept u i
+pub first-done : (bytes w₀ shares : List ℕ) (n size : ℕ) (c : Common) (w : List ℕ) (kept : List Kept) (u i : ℕ) → n ≤ i → First bytes w₀ shares n size c w kept u i
     → FirstPassed bytes shares n size c w₀ w (record { kept = kept; unspent = u })
 unfolding unspentAt
-first-done bytes w₀ shares n size c w todo kept u i l h =
+first-done bytes w₀ shares n size c w kept u i l h =
     let e : i ≡ n = omega (arith, h .low) in
     let g = h .from .shaped in
     record {
@@ -171,7 +168,7 @@ first-done bytes w₀ shares n size c w todo kept u i l h =
           rule-few = g .rule-few;
         };
         kept-long = h .kept-long;
-        left = omega (arith, h .left, ap (λ k. spent (gameOf (positionsOf bytes) shares size c) 0 k) e);
+        left-is = omega (arith, h .left, ap (λ k. spent (gameOf (positionsOf bytes) shares size c) 0 k) e);
         each = λ k a d. h .each k (omega arith) d;
       };
       past = h .past;

@@ -1,4 +1,4 @@
--- What the two passes ask for and come to, game by game, as the code goes through them. Rests on passes' definitions, resume's Stopped, and Parts.
+-- What the two passes ask for and come to, game by game, as the code goes through them. Rests on passes' definitions, pn's Stopped, and Parts.
 use mathlib.Core.Path.{_≡_}
 use mathlib.Core.List.{List}
 use Prim.Native.Nat.{ℕ, _+_, _*_, _-_, _/_, _≤_, _<_}
@@ -6,14 +6,13 @@ use lib.ListN.{length, getD, drop}
 use Rattle.rules.specs.Rules.{Position}
 use Rattle.rules.specs.Record.{positionOf}
 use Rattle.machine.specs.Place.{pool-max}
-use Rattle.words.specs.Freeing.{plies}
 use Rattle.passes.specs.Passes.{OneGame, total, spent, unspentAt, resultAt}
 use Rattle.pn.specs.Results.{resultOf}
+use Rattle.pn.specs.Keeping.{Stopped}
 use Rattle.pn.specs.declared.Settings.{Settings}
+use Rattle.pn.specs.declared.Kept.{Kept}
 use Rattle.pn.specs.declared.SearchResult.{SearchResult}
 use Rattle.resume.specs.Lone.{lone}
-use Rattle.resume.specs.Keeping.{Stopped}
-use Rattle.resume.specs.declared.Kept.{Kept}
 use Rattle.searches.specs.Searches.{budgetMost}
 use Rattle.games_checks.specs.Checks.{recordAt, refusalAt, sharesOf}
 use Rattle.games_checks.specs.declared.Common.{Common}
@@ -54,9 +53,8 @@ abbrev pub StoppedAt : (pos : ℕ → Position) (shares : List ℕ) (size : ℕ)
 StoppedAt pos shares size c w k x = Stopped (pos k) (settingsOf c (getD shares k 0)) (cut (k * size) (k * size + size) w) x
 
 -- the first pass has come to game i
-pub record First (bytes w₀ shares : List ℕ) (n size : ℕ) (c : Common) (w todo : List ℕ) (kept : List Kept) (unspent i : ℕ) : Type 0 where
+pub record First (bytes w₀ shares : List ℕ) (n size : ℕ) (c : Common) (w : List ℕ) (kept : List Kept) (unspent i : ℕ) : Type 0 where
   pub from : Playable bytes w₀ shares n size c
-  pub room : length todo ≡ plies
   pub low : i ≤ n
   pub long : length w ≡ length w₀
   pub kept-long : length kept ≡ 8
@@ -65,14 +63,14 @@ pub record First (bytes w₀ shares : List ℕ) (n size : ℕ) (c : Common) (w t
   pub past : drop (n * size) w ≡ drop (n * size) w₀
 
 -- between the passes: n games have stopped
-pub record Halfway (pos : ℕ → Position) (shares : List ℕ) (n size : ℕ) (c : Common) (w : List ℕ) (f : FirstPass) : Type 0 where
+pub record Halfway (pos : ℕ → Position) (shares : List ℕ) (n size : ℕ) (c : Common) (w : List ℕ) (kept : List Kept) (left : ℕ) : Type 0 where
   pub shaped : Shaped shares (length w) n size c
-  pub kept-long : length (f .kept) ≡ 8
-  pub left : f .unspent ≡ unspentAt (gameOf pos shares size c) (c .allowance) n 0
-  pub each : (k : ℕ) → k < n → (d : Kept) → StoppedAt pos shares size c w k (getD (f .kept) k d)
+  pub kept-long : length kept ≡ 8
+  pub left-is : left ≡ unspentAt (gameOf pos shares size c) (c .allowance) n 0
+  pub each : (k : ℕ) → k < n → (d : Kept) → StoppedAt pos shares size c w k (getD kept k d)
 
 pub record FirstPassed (bytes shares : List ℕ) (n size : ℕ) (c : Common) (w v : List ℕ) (r : FirstPass) : Type 0 where
-  pub half : Halfway (positionsOf bytes) shares n size c v r
+  pub half : Halfway (positionsOf bytes) shares n size c v (r .kept) (r .unspent)
   pub past : drop (n * size) v ≡ drop (n * size) w
 
 -- the second pass has come to game i, of whichever positions
@@ -81,19 +79,18 @@ pub record Turns (pos : ℕ → Position) (shares : List ℕ) (n size : ℕ) (c 
   pub each : (k : ℕ) → i ≤ k → k < n → (d : Kept) → StoppedAt pos shares size c w k (getD kept k d)
   pub done : (k : ℕ) → k < i → (d : SearchResult) → resultOf (getD results k d) ≡ resultAt (gameOf pos shares size c) (c .allowance) n k
 
-pub record Second (shares : List ℕ) (n size : ℕ) (c : Common) (f : FirstPass) (w₀ w todo : List ℕ) (unspent : ℕ) (results : List SearchResult) (i : ℕ) : Type 0 where
-  pub from : (pos : ℕ → Position) × Halfway pos shares n size c w₀ f
-  pub room : length todo ≡ plies
+pub record Second (shares : List ℕ) (n size : ℕ) (c : Common) (kept : List Kept) (left : ℕ) (w₀ w : List ℕ) (unspent : ℕ) (results : List SearchResult) (i : ℕ) : Type 0 where
+  pub from : (pos : ℕ → Position) × Halfway pos shares n size c w₀ kept left
   pub low : i ≤ n
   pub long : length w ≡ length w₀
   pub results-long : length results ≡ 8
-  pub turns : (pos : ℕ → Position) → Halfway pos shares n size c w₀ f → Turns pos shares n size c (f .kept) w unspent results i
+  pub turns : (pos : ℕ → Position) → Halfway pos shares n size c w₀ kept left → Turns pos shares n size c kept w unspent results i
   pub nothing : (k : ℕ) → i ≤ k → k < 8 → (d : SearchResult) → resultOf (getD results k d) ≡ noResult
   pub past : drop (n * size) w ≡ drop (n * size) w₀
 
-pub record SecondPassed (shares : List ℕ) (n size : ℕ) (c : Common) (f : FirstPass) (w v : List ℕ) (rs : List SearchResult) : Type 0 where
+pub record SecondPassed (shares : List ℕ) (n size : ℕ) (c : Common) (kept : List Kept) (left : ℕ) (w v : List ℕ) (rs : List SearchResult) : Type 0 where
   pub results-long : length rs ≡ 8
-  pub results : (pos : ℕ → Position) → Halfway pos shares n size c w f
+  pub results : (pos : ℕ → Position) → Halfway pos shares n size c w kept left
       → (k : ℕ) → k < n → (d : SearchResult) → resultOf (getD rs k d) ≡ resultAt (gameOf pos shares size c) (c .allowance) n k
   pub nothing : (k : ℕ) → n ≤ k → k < 8 → (d : SearchResult) → resultOf (getD rs k d) ≡ noResult
   pub past : drop (n * size) v ≡ drop (n * size) w

@@ -237,7 +237,7 @@ module _ (bytes shares : List ℕ) (C : Common) (w : List ℕ) where
         rw (
           shares-same,
           alike (λ i. cond (ltb i (games bytes)) (resultAt (gameAt bytes (length w) others C) (C .allowance) (games bytes) i) noResult)
-          (λ i. cond (ltb i (games bytes)) (resultAt game (C .allowance) (games bytes) i) noResult) 0 8 (λ i l. results-same i (ltb i (games bytes)) refl),
+              (λ i. cond (ltb i (games bytes)) (resultAt game (C .allowance) (games bytes) i) noResult) 0 8 (λ i l. results-same i (ltb i (games bytes)) refl),
         )
 
 -- THEOREM: the call is as promised
@@ -281,7 +281,7 @@ keeps bytes shares C w v r e pool = (
   (
     pool,
     subst (GamesStatement bytes shares C w v) (sym e)
-    (games-statement bytes shares C w v (subst (λ k. PoolAfterGames k (games bytes) w v) (ap (λ (o : GamesOutcome). o .number) e) pool)),
+        (games-statement bytes shares C w v (subst (λ k. PoolAfterGames k (games bytes) w v) (ap (λ (o : GamesOutcome). o .number) e) pool)),
   ),
 )
 

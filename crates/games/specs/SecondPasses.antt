@@ -8,34 +8,32 @@ use lib.ListN.{length, getD, drop, set, length-set}
 use lib.Seq.{getD-set-same, getD-set-other}
 use borrow.Rule.Slice.PartMut.{putMid, mid-len, same-len-mid}
 use Rattle.rules.specs.Rules.{Position}
-use Rattle.words.specs.Freeing.{plies}
 use Rattle.passes.specs.Passes.{total, first, spent, grantWith, unspentAfter, unspentAt, resultAt, expandedBy}
 use Rattle.passes.specs.Laws.{accounts}
 use Rattle.pn.specs.Results.{resultOf}
+use Rattle.pn.specs.Keeping.{Stopped}
+use Rattle.pn.specs.declared.Kept.{Kept}
 use Rattle.pn.specs.declared.SearchResult.{SearchResult}
 use Rattle.resume.specs.Lone.{lone}
-use Rattle.resume.specs.Keeping.{Stopped}
 use Rattle.resume.specs.Passing.{Passable, Passes}
-use Rattle.resume.specs.declared.Kept.{Kept}
 use Rattle.resume.specs.declared.Turn.{Turn}
 use Rattle.games_checks.specs.declared.Common.{Common}
 use Rattle.games.specs.Games.{noResult}
 use Rattle.games.specs.Parts.{cut, next-part, cut-after, drop-after}
 use Rattle.games.specs.Playing.{settingsOf, gameOf, Shaped, StoppedAt, Halfway, Turns, Second, SecondPassed}
 use Rattle.games.specs.FirstPasses.{games-bounded, part-fits, part-nodes, part-ranges, part-expanded}
-use Rattle.games.specs.declared.FirstPass.{FirstPass}
 
-module _ {shares : List ℕ} {n size : ℕ} {c : Common} {f : FirstPass} {w₀ w todo : List ℕ} {u : ℕ} {results : List SearchResult} {i : ℕ}
-    (h : Second shares n size c f w₀ w todo u results i) (l : i < n) where
+module _ {shares : List ℕ} {n size : ℕ} {c : Common} {kept : List Kept} {left : ℕ} {w₀ w : List ℕ} {u : ℕ} {results : List SearchResult} {i : ℕ}
+    (h : Second shares n size c kept left w₀ w u results i) (l : i < n) where
   g : Shaped shares (length w₀) n size c
   g = h .from .1 .shaped
 
   module _ (d : Kept) where
-    stopped : (pos : ℕ → Position) → Halfway pos shares n size c w₀ f → Stopped (pos i) (settingsOf c (getD shares i 0)) (cut (i * size) (i * size + size) w) (getD (f .kept) i d)
+    stopped : (pos : ℕ → Position) → Halfway pos shares n size c w₀ kept left → Stopped (pos i) (settingsOf c (getD shares i 0)) (cut (i * size) (i * size + size) w) (getD kept i d)
     stopped pos q = h .turns pos q .each i (omega arith) l d
 
     -- what the game has expanded and what is unspent are within the allowance
-    within : (pos : ℕ → Position) → Halfway pos shares n size c w₀ f → getD (f .kept) i d .running .prover .expanded + u ≤ c .allowance
+    within : (pos : ℕ → Position) → Halfway pos shares n size c w₀ kept left → getD kept i d .running .prover .expanded + u ≤ c .allowance
     unfolding total
     within pos q =
         let s : i + suc (n - suc i) ≡ n = omega arith in
@@ -43,10 +41,10 @@ module _ {shares : List ℕ} {n size : ℕ} {c : Common} {f : FirstPass} {w₀ w
           arith,
           accounts (gameOf pos shares size c) (games-bounded g pos) (c .allowance) n (g .shared) i (suc (n - suc i)) s,
           h .turns pos q .left,
-          part-expanded g w (h .long) i l pos (cut (i * size) (i * size + size) w) (getD (f .kept) i d) refl (stopped pos q),
+          part-expanded g w (h .long) i l pos (cut (i * size) (i * size + size) w) (getD kept i d) refl (stopped pos q),
         )
 
-    pub to-second : Passable (cut (i * size) (i * size + size) w) (getD (f .kept) i d) (settingsOf c (getD shares i 0)) u
+    pub to-second : Passable (cut (i * size) (i * size + size) w) (getD kept i d) (settingsOf c (getD shares i 0)) u
     to-second = record {
       start = h .from .0 i;
       stopped = stopped (h .from .0) (h .from .1);
@@ -55,7 +53,7 @@ module _ {shares : List ℕ} {n size : ℕ} {c : Common} {f : FirstPass} {w₀ w
     }
 
     module _ (v : List ℕ) (t : Turn) (long : length v ≡ length (cut (i * size) (i * size + size) w))
-        (passes : (p : Position) → Stopped p (settingsOf c (getD shares i 0)) (cut (i * size) (i * size + size) w) (getD (f .kept) i d)
+        (passes : (p : Position) → Stopped p (settingsOf c (getD shares i 0)) (cut (i * size) (i * size + size) w) (getD kept i d)
         → Passes p (settingsOf c (getD shares i 0)) (cut (i * size) (i * size + size) w) u t) where
       v-long : length v ≡ i * size + size - i * size
       v-long = long ∙ mid-len (i * size) (i * size + size) w (part-fits g w (h .long) i l)
@@ -68,7 +66,7 @@ module _ {shares : List ℕ} {n size : ℕ} {c : Common} {f : FirstPass} {w₀ w
           cut-after (i * size) (i * size + size) w v (omega arith) (part-fits g w (h .long) i l) v-long (m * size) (m * size + size) (next-part i m size lm)
 
       -- by the definition of the two passes
-      module _ (pos : ℕ → Position) (q : Halfway pos shares n size c w₀ f) where
+      module _ (pos : ℕ → Position) (q : Halfway pos shares n size c w₀ kept left) where
         here : (resultOf (t .result) ≡ gameOf pos shares size c i .search (grantWith (gameOf pos shares size c i) u)) × (t .unspent ≡ unspentAfter (gameOf pos shares size c i) u)
         here =
             subst (λ m. (resultOf (t .result) ≡ lone (c .rule) m (c .limit) (c .interval) (getD shares i 0) (pos i) .search (grantWith (lone (c .rule) m (c .limit) (c .interval) (getD shares i 0) (pos i)) u))
@@ -82,10 +80,10 @@ module _ {shares : List ℕ} {n size : ℕ} {c : Common} {f : FirstPass} {w₀ w
         unfolding unspentAt
         unspent-here = here .1 ∙ ap (unspentAfter (gameOf pos shares size c i)) (h .turns pos q .left)
 
-        turns-next : Turns pos shares n size c (f .kept) w′ (t .unspent) (set results i (t .result)) (suc i)
+        turns-next : Turns pos shares n size c kept w′ (t .unspent) (set results i (t .result)) (suc i)
         turns-next = record {
           left = unspent-here;
-          each = λ m a b e. subst (λ z. Stopped (pos m) (settingsOf c (getD shares m 0)) z (getD (f .kept) m e)) (sym (part-same m (omega arith))) (h .turns pos q .each m (omega arith) b e);
+          each = λ m a b e. subst (λ z. Stopped (pos m) (settingsOf c (getD shares m 0)) z (getD kept m e)) (sym (part-same m (omega arith))) (h .turns pos q .each m (omega arith) b e);
           done = λ m lm e. go m lm e (ℕ-discrete m i);
         }
           where
@@ -95,36 +93,34 @@ module _ {shares : List ℕ} {n size : ℕ} {c : Common} {f : FirstPass} {w₀ w
                 (ap resultOf (getD-set-same results i (t .result) e (omega (arith, h .results-long, g .few))) ∙ result-here)
             go m lm e (no z) = ap resultOf (getD-set-other results i m (t .result) e z) ∙ h .turns pos q .done m (omega arith) e
 
-      pub second-next : (todo′ : List ℕ) → length todo′ ≡ plies → (j : ℕ) → j ≡ suc i → Second shares n size c f w₀ w′ todo′ (t .unspent) (set results i (t .result)) j
-      second-next todo′ room j ej = record {
+      pub second-next : (j : ℕ) → j ≡ suc i → Second shares n size c kept left w₀ w′ (t .unspent) (set results i (t .result)) j
+      second-next j ej = record {
         from = h .from;
-        room = room;
         low = omega arith;
         long = same-len-mid (i * size) (i * size + size - i * size) w v long ∙ h .long;
         results-long = length-set results i (t .result) ∙ h .results-long;
-        turns = λ pos q. subst (λ k. Turns pos shares n size c (f .kept) w′ (t .unspent) (set results i (t .result)) k) (sym ej) (turns-next pos q);
+        turns = λ pos q. subst (λ k. Turns pos shares n size c kept w′ (t .unspent) (set results i (t .result)) k) (sym ej) (turns-next pos q);
         nothing = λ k a b e. ap resultOf (getD-set-other results i k (t .result) e (λ z. omega (arith, z))) ∙ h .nothing k (omega arith) b e;
         past = drop-after (i * size) (i * size + size) w v (omega arith) (part-fits g w (h .long) i l) v-long (n * size) (next-part i n size l) ∙ h .past;
       }
 
 -- the pass begins between the passes, and ends
-pub second-start : (shares : List ℕ) (n size : ℕ) (c : Common) (f : FirstPass) (w todo : List ℕ) (results : List SearchResult) → length todo ≡ plies → length results ≡ 8
-    → ((k : ℕ) → k < 8 → (d : SearchResult) → resultOf (getD results k d) ≡ noResult) → (pos : ℕ → Position) × Halfway pos shares n size c w f
-    → Second shares n size c f w w todo (f .unspent) results 0
-second-start shares n size c f w todo results room long none from = record {
+pub second-start : (shares : List ℕ) (n size : ℕ) (c : Common) (kept : List Kept) (left : ℕ) (w : List ℕ) (results : List SearchResult) → length results ≡ 8
+    → ((k : ℕ) → k < 8 → (d : SearchResult) → resultOf (getD results k d) ≡ noResult) → (pos : ℕ → Position) × Halfway pos shares n size c w kept left
+    → Second shares n size c kept left w w left results 0
+second-start shares n size c kept left w results long none from = record {
   from = from;
-  room = room;
   low = omega arith;
   long = refl;
   results-long = long;
-  turns = λ pos q. record { left = q .left; each = λ k a b d. q .each k b d; done = λ k b. absurd (omega arith) };
+  turns = λ pos q. record { left = q .left-is; each = λ k a b d. q .each k b d; done = λ k b. absurd (omega arith) };
   nothing = λ k a b d. none k b d;
   past = refl;
 }
 
-pub second-done : (shares : List ℕ) (n size : ℕ) (c : Common) (f : FirstPass) (w₀ w todo : List ℕ) (u : ℕ) (results : List SearchResult) (i : ℕ) → n ≤ i
-    → Second shares n size c f w₀ w todo u results i → SecondPassed shares n size c f w₀ w results
-second-done shares n size c f w₀ w todo u results i l h = record {
+pub second-done : (shares : List ℕ) (n size : ℕ) (c : Common) (kept : List Kept) (left : ℕ) (w₀ w : List ℕ) (u : ℕ) (results : List SearchResult) (i : ℕ) → n ≤ i
+    → Second shares n size c kept left w₀ w u results i → SecondPassed shares n size c kept left w₀ w results
+second-done shares n size c kept left w₀ w u results i l h = record {
   results-long = h .results-long;
   results = λ pos q k a d. h .turns pos q .done k (omega arith) d;
   nothing = λ k a b d. h .nothing k (omega (arith, h .low)) b d;

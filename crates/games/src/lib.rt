@@ -13,12 +13,11 @@ ghost use Rattle.games.specs.Answers.{outcomeOf};
 ghost use Rattle.games.specs.Playing.{Playable, FirstPassed, Halfway, SecondPassed};
 use games_checks::Common;
 use games_checks::MOST_GAMES;
-use node_pool::PLIES;
+use pn::Kept;
 use pn::SearchResult;
 use pn::Settings;
 use prove::Evaluation;
 use record::RECORD_LENGTH;
-use resume::Kept;
 
 // The words of a node.
 const NODE: usize = 5;
@@ -41,8 +40,6 @@ fn first_pass(
     requires { ⌜ Playable (now bytes) (now words) (now shares) n size c ⌝ }
     ensures { λ r. ⌜ FirstPassed (now (bytes .entry)) (now (shares .entry)) n size c (now (words .entry)) (now (words .exit)) r ⌝ }
 {
-    let table = game::line_table();
-    let mut todo: [u32; PLIES] = [0; PLIES];
     let nothing = resume::nothing();
     let mut kept: [Kept; MOST_GAMES] = [nothing; MOST_GAMES];
     let mut unspent = c.allowance;
@@ -51,7 +48,7 @@ fn first_pass(
         let b = i * RECORD_LENGTH;
         let d = b + RECORD_LENGTH;
         let loaded = record::load(&bytes[b..d]);
-        let start = loaded.game;
+        let root = loaded.game;
         let a = i * size;
         let e = a + size;
         let s = Settings {
@@ -60,7 +57,7 @@ fn first_pass(
             budget: shares[i],
             interval: c.interval,
         };
-        let k = resume::first(&table, &mut words[a..e], &mut todo, start, s);
+        let k = pn::start(&mut words[a..e], root, s);
         let x = k.running;
         let p = x.prover;
         unspent -= p.expanded;
@@ -94,17 +91,15 @@ fn second_pass(
     n: usize,
     size: usize,
     c: Common,
-    f: FirstPass,
+    kept: [Kept; MOST_GAMES],
+    left: u64,
 ) -> [SearchResult; MOST_GAMES]
-    requires { ⌜ ((pos : ℕ → Position) × Halfway pos (now shares) n size c (now words) f) ⌝ }
-    ensures { λ r. ⌜ SecondPassed (now (shares .entry)) n size c f (now (words .entry)) (now (words .exit)) r ⌝ }
+    requires { ⌜ ((pos : ℕ → Position) × Halfway pos (now shares) n size c (now words) kept left) ⌝ }
+    ensures { λ r. ⌜ SecondPassed (now (shares .entry)) n size c kept left (now (words .entry)) (now (words .exit)) r ⌝ }
 {
-    let table = game::line_table();
-    let mut todo: [u32; PLIES] = [0; PLIES];
     let none = no_result();
     let mut results: [SearchResult; MOST_GAMES] = [none; MOST_GAMES];
-    let kept = f.kept;
-    let mut unspent = f.unspent;
+    let mut unspent = left;
     let mut i: usize = 0;
     while i < n {
         let a = i * size;
@@ -116,7 +111,7 @@ fn second_pass(
             interval: c.interval,
         };
         let k = kept[i];
-        let turn = resume::second(&table, &mut words[a..e], &mut todo, k, s, unspent);
+        let turn = resume::second(&mut words[a..e], k, s, unspent);
         let r = turn.result;
         results[i] = r;
         unspent = turn.unspent;
@@ -174,7 +169,8 @@ pub fn judge_games(
     }
     let size = nodes / n * NODE;
     let first = first_pass(bytes, words, shares, n, size, c);
-    let results = second_pass(words, shares, n, size, c, first);
+    let kept = first.kept;
+    let results = second_pass(words, shares, n, size, c, kept, first.unspent);
     JudgedGames {
         code: 0,
         index: 0,

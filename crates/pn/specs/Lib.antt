@@ -9,3 +9,4 @@ pub mod Rounding
 pub mod Steps
 pub mod Stepping
 pub mod Searches
+pub mod Keeping

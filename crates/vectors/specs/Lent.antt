@@ -1,4 +1,4 @@
--- What it is for the settings of a line to name a pool that can be lent, and a law for those who took them apart. Assumes nothing.
+-- What it is for the settings of a line to name a pool that can be lent, and two laws for those who took them apart. Assumes nothing.
 use Prim.Native.Nat.{ℕ, _≤_}
 use mathlib.Core.Path.{_≡_}
 use mathlib.Core.List.{List}
@@ -14,5 +14,8 @@ abbrev pub Lendable : Reading → Type 0
 Lendable (Read x) = x .words ≤ 20484
 Lendable Unreadable = Unit {0}
 
+pub lendable : {r : Reading} {x : Settings} → r ≡ Read x → Lendable r → x .words ≤ 20484
+lendable e h = rw e at h
+
 pub lent : (pool : List ℕ) {r : Reading} {x : Settings} → 20484 ≡ length pool → r ≡ Read x → Lendable r → Counts (x .words) pool
-lent pool {x = x} p e h = let l : x .words ≤ 20484 = rw e at h in (omega arith, simp length-take (omega arith))
+lent pool {x = x} p e h = let l : x .words ≤ 20484 = lendable e h in (omega arith, simp length-take (omega arith))

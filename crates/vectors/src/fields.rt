@@ -76,7 +76,7 @@ pub fn read_barred(s: &[u8], at: usize, want: &mut [u64; 9]) -> Place {
 }
 
 // Whether two lists have the same numbers.
-fn same_numbers(a: &[u64], b: &[u64]) -> bool
+pub fn same_numbers(a: &[u64], b: &[u64]) -> bool
     ensures { λ r. ⌜ (r ≡ true → now (a .entry) ≡ now (b .entry)) × (now (a .entry) ≡ now (b .entry) → r ≡ true) ⌝ }
 {
     if a.len() != b.len() {

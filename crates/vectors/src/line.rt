@@ -126,17 +126,15 @@ pub fn read_bytes(s: &[u8], at: usize, out: &mut [u8]) -> Count
     spell(&s[start..end], end, out)
 }
 
-// The number that the next word spells.
-pub fn read_number(s: &[u8], at: usize) -> Number {
-    let w = next_word(s, at);
-    let end = w.end;
-    let mut i = w.start;
-    if i == end {
+// The number that digits spell. There is one at least. `place` follows them.
+pub fn number_of(digits: &[u8], place: usize) -> Number {
+    if digits.len() == 0 {
         return Number::Unreadable;
     }
     let mut n: u64 = 0;
-    while i < end {
-        let digit = hex_value(s[i]);
+    let mut i: usize = 0;
+    while i < digits.len() {
+        let digit = hex_value(digits[i]);
         if 9 < digit {
             return Number::Unreadable;
         }
@@ -147,5 +145,13 @@ pub fn read_number(s: &[u8], at: usize) -> Number {
         n = n * 10 + last;
         i += 1;
     }
-    Number::Value(n, end)
+    Number::Value(n, place)
+}
+
+// The number that the next word spells.
+pub fn read_number(s: &[u8], at: usize) -> Number {
+    let w = next_word(s, at);
+    let start = w.start;
+    let end = w.end;
+    number_of(&s[start..end], end)
 }

@@ -3,6 +3,7 @@
 mod answers;
 mod books;
 mod calls;
+mod eight;
 mod fields;
 mod line;
 mod publishing;

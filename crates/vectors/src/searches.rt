@@ -16,7 +16,7 @@ use ultimattt::exports::SearchAnswer;
 // The most nodes that a pool is lent with: `fields::fresh_pool` has five words for each, and four more.
 const MOST_NODES: u64 = 4096;
 
-// How many words of a pool are lent, the limits of a search, and the place after the arrow that follows them.
+// How many words of a pool are lent, the limits of a search, and the place after them.
 pub struct Settings {
     pub words: usize,
     pub limit: u64,
@@ -30,8 +30,8 @@ pub enum Reading {
     Unreadable,
 }
 
-// `POOL-NODES LIMIT BUDGET INTERVAL =>`. Of a pool five words for each node are lent, and up to four more.
-pub fn read_settings(s: &[u8], at: usize) -> Reading
+// `POOL-NODES LIMIT BUDGET INTERVAL`. Of a pool five words for each node are lent, and up to four more.
+pub fn read_limits(s: &[u8], at: usize) -> Reading
     ensures { λ r. ⌜ Lendable r ⌝ }
 {
     let Number::Value(nodes, after_nodes) = line::read_number(s, at) else {
@@ -43,21 +43,36 @@ pub fn read_settings(s: &[u8], at: usize) -> Reading
     let Number::Value(budget, after_budget) = line::read_number(s, after_limit) else {
         return Reading::Unreadable;
     };
-    let Number::Value(interval, after_interval) = line::read_number(s, after_budget) else {
+    let Number::Value(interval, place) = line::read_number(s, after_budget) else {
         return Reading::Unreadable;
     };
-    let arrow = line::next_word(s, after_interval);
-    let place = arrow.end;
     if MOST_NODES < nodes {
         return Reading::Unreadable;
     }
+    Reading::Read(Settings {
+        words: (nodes * 5 + nodes % 5) as usize,
+        limit,
+        budget,
+        interval,
+        place,
+    })
+}
+
+// `POOL-NODES LIMIT BUDGET INTERVAL =>`. The place is that after the arrow.
+pub fn read_settings(s: &[u8], at: usize) -> Reading
+    ensures { λ r. ⌜ Lendable r ⌝ }
+{
+    let Reading::Read(x) = read_limits(s, at) else {
+        return Reading::Unreadable;
+    };
+    let arrow = line::next_word(s, x.place);
     if line::is_word(s, arrow, b"=>") {
         return Reading::Read(Settings {
-            words: (nodes * 5 + nodes % 5) as usize,
-            limit,
-            budget,
-            interval,
-            place,
+            words: x.words,
+            limit: x.limit,
+            budget: x.budget,
+            interval: x.interval,
+            place: arrow.end,
         });
     }
     Reading::Unreadable

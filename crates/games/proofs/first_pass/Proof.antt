@@ -9,29 +9,26 @@ use Rattle.games.proofs.first_pass.Statement.{statement}
 use Rattle.games.proofs.first_pass.Tie as tie
 
 abbrev Inv-loop : tie.InvT-loop
-Inv-loop bytes words₀ shares n size c table todo₀ kept₀ unspent₀ i₀ words todo kept unspent i = First bytes words₀ shares n size c words todo kept unspent i
+Inv-loop bytes words₀ shares n size c kept₀ unspent₀ i₀ words kept unspent i = First bytes words₀ shares n size c words kept unspent i
 
 abbrev μ-loop : tie.MeasureT-loop
-μ-loop bytes words₀ shares n size c table todo₀ kept₀ unspent₀ i₀ words todo kept unspent i = n - i
+μ-loop bytes words₀ shares n size c kept₀ unspent₀ i₀ words kept unspent i = n - i
 
 -- From where a game has run back to its record, to the turn of the loop, and what it comes to
-abbrev load : tie.After-first Inv-loop μ-loop → tie.After-load Inv-loop μ-loop
-load r = r .before .before .before .before .before .before
+abbrev load : tie.After-start Inv-loop μ-loop → tie.After-load Inv-loop μ-loop
+load r = r .before .before .before .before
 
-abbrev turn : tie.After-first Inv-loop μ-loop → tie.In-loop Inv-loop μ-loop
+abbrev turn : tie.After-start Inv-loop μ-loop → tie.In-loop Inv-loop μ-loop
 turn r = load r .before .before
 
-abbrev at : tie.After-first Inv-loop μ-loop → tie.At-loop Inv-loop μ-loop
+abbrev at : tie.After-start Inv-loop μ-loop → tie.At-loop Inv-loop μ-loop
 at r = turn r .before
-
-line-table-requires : tie.Need-line-table-requires Inv-loop μ-loop
-line-table-requires c κs = search needs
 
 nothing-requires : tie.Need-nothing-requires Inv-loop μ-loop
 nothing-requires c κs = search needs
 
 loop-holds : tie.Need-loop-holds Inv-loop μ-loop
-loop-holds c = first-start _ _ _ _ _ _ _ _ refl refl (c .before .before .before .before .pre)
+loop-holds c = first-start _ _ _ _ _ _ _ refl (c .before .before .before .pre)
 
 mul-b : tie.Need-mul-b Inv-loop μ-loop
 mul-b c = omega (arith, c .before .loop .inv .from .shaped .few, c .loop-test .taken)
@@ -63,44 +60,44 @@ add-e c =
     let h = turn .before .loop .inv in
     omega (arith, part-fits (h .from .shaped) (turn .before .loop .words) (h .long) _ (turn .loop-test .taken), h .long)
 
-mul-t26 : tie.Need-mul-t26 Inv-loop μ-loop
-mul-t26 c = let turn = c .before .before .before in omega (arith, turn .before .loop .inv .from .shaped .few, turn .loop-test .taken)
+mul-t23 : tie.Need-mul-t23 Inv-loop μ-loop
+mul-t23 c = let turn = c .before .before .before in omega (arith, turn .before .loop .inv .from .shaped .few, turn .loop-test .taken)
 
-element-copy-out-t31 : tie.Need-element-copy-out-t31 Inv-loop μ-loop
-element-copy-out-t31 c = let turn = c .before .before .before in omega (arith, turn .before .loop .inv .from .shaped .few, turn .loop-test .taken)
+element-copy-out-t28 : tie.Need-element-copy-out-t28 Inv-loop μ-loop
+element-copy-out-t28 c = let turn = c .before .before .before in omega (arith, turn .before .loop .inv .from .shaped .few, turn .loop-test .taken)
 
-mul-first : tie.Need-mul-first Inv-loop μ-loop
-mul-first c =
-    let turn = c .before .before .before .before .before in
+mul-start : tie.Need-mul-start Inv-loop μ-loop
+mul-start c =
+    let turn = c .before .before .before .before in
     let h = turn .before .loop .inv in
     omega (arith, part-fits (h .from .shaped) (turn .before .loop .words) (h .long) _ (turn .loop-test .taken), h .long)
 
-sub-first : tie.Need-sub-first Inv-loop μ-loop
-sub-first c = omega arith
+sub-start : tie.Need-sub-start Inv-loop μ-loop
+sub-start c = omega arith
 
-part-first-start : tie.Need-part-first-start Inv-loop μ-loop
-part-first-start c = omega arith
+part-start-start : tie.Need-part-start-start Inv-loop μ-loop
+part-start-start c = omega arith
 
-part-first-end : tie.Need-part-first-end Inv-loop μ-loop
-part-first-end c =
-    let turn = c .before .before .before .before .before in
+part-start-end : tie.Need-part-start-end Inv-loop μ-loop
+part-start-end c =
+    let turn = c .before .before .before .before in
     let h = turn .before .loop .inv in
     part-fits (h .from .shaped) (turn .before .loop .words) (h .long) _ (turn .loop-test .taken)
 
-first-requires : tie.Need-first-requires Inv-loop μ-loop
-first-requires c κs =
-    let loaded = c .before .before .before .before .before in
+start-requires : tie.Need-start-requires Inv-loop μ-loop
+start-requires c κs =
+    let loaded = c .before .before .before in
     let turn = loaded .before .before in
     let h = turn .before .loop .inv in
     let l = turn .loop-test .taken in
     let e = loaded .load .ensures in
-    (h .room, (turn .before .before .before .line-table .ensures, to-first h l _ (record-holds (h .from) _ _ _ l (e .0) (e .1))))
+    to-first h l _ (record-holds (h .from) _ _ _ l (e .0) (e .1))
 
 sub-unspent : tie.Need-sub-unspent Inv-loop μ-loop
 sub-unspent c =
     let r = c .before .before .before .before .before in
-    unspent-enough (at r .loop .inv) (turn r .loop-test .taken) _ _ (r .first .kept .1 .0)
-    (r .first .ensures .1 _ (record-holds (at r .loop .inv .from) _ _ _ (turn r .loop-test .taken) (load r .load .ensures .0) (load r .load .ensures .1)) (first-accepted (at r .loop .inv) (turn r .loop-test .taken)))
+    unspent-enough (at r .loop .inv) (turn r .loop-test .taken) _ _ (r .start .kept .0)
+    (r .start .ensures .0 _ (record-holds (at r .loop .inv .from) _ _ _ (turn r .loop-test .taken) (load r .load .ensures .0) (load r .load .ensures .1)) (first-accepted (at r .loop .inv) (turn r .loop-test .taken)))
 
 mul-kept : tie.Need-mul-kept Inv-loop μ-loop
 mul-kept c =
@@ -125,14 +122,14 @@ loop-less c =
 loop-again : tie.Need-loop-again Inv-loop μ-loop
 loop-again c =
     let r = c .before .before .before .before .before in
-    first-next (at r .loop .inv) (turn r .loop-test .taken) _ _ (r .first .kept .1 .0)
-    (r .first .ensures .1 _ (record-holds (at r .loop .inv .from) _ _ _ (turn r .loop-test .taken) (load r .load .ensures .0) (load r .load .ensures .1)) (first-accepted (at r .loop .inv) (turn r .loop-test .taken))) _ (r .first .ensures .0) _ (omega arith)
+    first-next (at r .loop .inv) (turn r .loop-test .taken) _ _ (r .start .kept .0)
+    (r .start .ensures .0 _ (record-holds (at r .loop .inv .from) _ _ _ (turn r .loop-test .taken) (load r .load .ensures .0) (load r .load .ensures .1)) (first-accepted (at r .loop .inv) (turn r .loop-test .taken))) _ (omega arith)
 
 same-length : tie.Need-same-length Inv-loop μ-loop
 same-length c = c .before .loop .inv .long
 
 returns : tie.Need-returns Inv-loop μ-loop
-returns c = first-done _ _ _ _ _ _ _ _ _ _ _ (c .loop-test .left) (c .before .loop .inv)
+returns c = first-done _ _ _ _ _ _ _ _ _ _ (c .loop-test .left) (c .before .loop .inv)
 
 pub first-pass-spec : {M : Type 1} → statement M
 first-pass-spec =
@@ -140,7 +137,6 @@ first-pass-spec =
     (tie.spec
     Inv-loop
     μ-loop
-    line-table-requires
     nothing-requires
     loop-holds
     mul-b
@@ -151,13 +147,13 @@ first-pass-spec =
     load-requires
     mul-a
     add-e
-    mul-t26
-    element-copy-out-t31
-    mul-first
-    sub-first
-    part-first-start
-    part-first-end
-    first-requires
+    mul-t23
+    element-copy-out-t28
+    mul-start
+    sub-start
+    part-start-start
+    part-start-end
+    start-requires
     sub-unspent
     mul-kept
     array-set-from-kept

@@ -107,7 +107,7 @@ first-pass-requires c κs =
     to-play (a .bytes .now) (a .words .now) (a .shares .now) (a .c) some load _ (sized t .capacity .ensures) fine
 
 second-pass-requires : tie.Need-second-pass-requires
-second-pass-requires c κs = (_, c .before .before .before .first-pass .ensures .half)
+second-pass-requires c κs = (_, c .before .before .before .before .first-pass .ensures .half)
 
 same-length-2 : tie.Need-same-length-2
 same-length-2 c = search needs
@@ -115,7 +115,7 @@ same-length-2 c = search needs
 returns-4 : tie.Need-returns-4
 returns-4 c =
     let second = c .before .before in
-    let first = second .before .before .before .before in
+    let first = second .before .before .before .before .before in
     let t = first .before .before in
     let e = early (sized t) in
     let r = number e in

@@ -12,24 +12,20 @@ use Rattle.games.proofs.second_pass.Statement.{statement}
 use Rattle.games.proofs.second_pass.Tie as tie
 
 abbrev Inv-loop : tie.InvT-loop
-Inv-loop words₀ shares n size c table todo₀ results₀ kept unspent₀ i₀ words todo results unspent i =
-    Second shares n size c (record { kept = kept; unspent = unspent₀ }) words₀ words todo unspent results i
+Inv-loop words₀ shares n size c left kept results₀ unspent₀ i₀ words results unspent i = Second shares n size c kept left words₀ words unspent results i
 
 abbrev μ-loop : tie.MeasureT-loop
-μ-loop words₀ shares n size c table todo₀ results₀ kept unspent₀ i₀ words todo results unspent i = n - i
+μ-loop words₀ shares n size c left kept results₀ unspent₀ i₀ words results unspent i = n - i
 
 -- From where a game has had its turn back to the loop
 abbrev turn-of : tie.After-second Inv-loop μ-loop → tie.In-loop Inv-loop μ-loop
-turn-of r = r .before .before .before .before .before .before
-
-line-table-requires : tie.Need-line-table-requires Inv-loop μ-loop
-line-table-requires c κs = search needs
+turn-of r = r .before .before .before .before
 
 no-result-requires : tie.Need-no-result-requires Inv-loop μ-loop
 no-result-requires c κs = search needs
 
 loop-holds : tie.Need-loop-holds Inv-loop μ-loop
-loop-holds c = second-start _ _ _ _ _ _ _ _ refl refl (λ k l d. ap resultOf (getD-replicate 8 k _ d l) ∙ c .before .no-result .ensures) (c .before .before .before .before .pre)
+loop-holds c = second-start _ _ _ _ _ _ _ _ refl (λ k l d. ap resultOf (getD-replicate 8 k _ d l) ∙ c .no-result .ensures) (c .before .before .pre)
 
 mul-a : tie.Need-mul-a Inv-loop μ-loop
 mul-a c = let h = c .before .loop .inv in omega (arith, part-fits (h .from .1 .shaped) (c .before .loop .words) (h .long) _ (c .loop-test .taken), h .long)
@@ -37,11 +33,11 @@ mul-a c = let h = c .before .loop .inv in omega (arith, part-fits (h .from .1 .s
 add-e : tie.Need-add-e Inv-loop μ-loop
 add-e c = let h = c .before .loop .inv in omega (arith, part-fits (h .from .1 .shaped) (c .before .loop .words) (h .long) _ (c .loop-test .taken), h .long)
 
-mul-t22 : tie.Need-mul-t22 Inv-loop μ-loop
-mul-t22 c = omega (arith, c .before .loop .inv .from .1 .shaped .few, c .loop-test .taken)
+mul-t20 : tie.Need-mul-t20 Inv-loop μ-loop
+mul-t20 c = omega (arith, c .before .loop .inv .from .1 .shaped .few, c .loop-test .taken)
 
-element-copy-out-t25 : tie.Need-element-copy-out-t25 Inv-loop μ-loop
-element-copy-out-t25 c = omega (arith, c .before .loop .inv .from .1 .shaped .few, c .loop-test .taken)
+element-copy-out-t23 : tie.Need-element-copy-out-t23 Inv-loop μ-loop
+element-copy-out-t23 c = omega (arith, c .before .loop .inv .from .1 .shaped .few, c .loop-test .taken)
 
 mul-k : tie.Need-mul-k Inv-loop μ-loop
 mul-k c = let turn = c .before in omega (arith, turn .before .loop .inv .from .1 .shaped .few, turn .loop-test .taken)
@@ -51,7 +47,7 @@ array-copy-out-k c = let turn = c .before in omega (arith, turn .before .loop .i
 
 mul-second : tie.Need-mul-second Inv-loop μ-loop
 mul-second c =
-    let turn = c .before .before .before in
+    let turn = c .before .before in
     let h = turn .before .loop .inv in
     omega (arith, part-fits (h .from .1 .shaped) (turn .before .loop .words) (h .long) _ (turn .loop-test .taken), h .long)
 
@@ -63,15 +59,12 @@ part-second-start c = omega arith
 
 part-second-end : tie.Need-part-second-end Inv-loop μ-loop
 part-second-end c =
-    let turn = c .before .before .before in
+    let turn = c .before .before in
     let h = turn .before .loop .inv in
     part-fits (h .from .1 .shaped) (turn .before .loop .words) (h .long) _ (turn .loop-test .taken)
 
 second-requires : tie.Need-second-requires Inv-loop μ-loop
-second-requires c κs =
-    let turn = c .before .before .before .before .before in
-    let h = turn .before .loop .inv in
-    (h .room, (turn .before .before .before .before .line-table .ensures, to-second h (turn .loop-test .taken) _))
+second-requires c κs = let turn = c .before .before .before in to-second (turn .before .loop .inv) (turn .loop-test .taken) _
 
 mul-results : tie.Need-mul-results Inv-loop μ-loop
 mul-results c =
@@ -97,7 +90,7 @@ loop-again : tie.Need-loop-again Inv-loop μ-loop
 loop-again c =
     let r = c .before .before .before in
     let turn = turn-of r in
-    second-next (turn .before .loop .inv) (turn .loop-test .taken) _ (r .second .last .1 .0) (r .second .result) (r .second .kept .1 .0) (r .second .ensures .1) _ (r .second .ensures .0) _ (omega arith)
+    second-next (turn .before .loop .inv) (turn .loop-test .taken) _ (r .second .last .0) (r .second .result) (r .second .kept .0) (r .second .ensures) _ (omega arith)
 
 same-length : tie.Need-same-length Inv-loop μ-loop
 same-length c = c .before .loop .inv .long
@@ -111,13 +104,12 @@ second-pass-spec =
     (tie.spec
     Inv-loop
     μ-loop
-    line-table-requires
     no-result-requires
     loop-holds
     mul-a
     add-e
-    mul-t22
-    element-copy-out-t25
+    mul-t20
+    element-copy-out-t23
     mul-k
     array-copy-out-k
     mul-second

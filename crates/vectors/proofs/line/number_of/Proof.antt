@@ -1,18 +1,15 @@
--- `vectors::line::read_number` is safe and ends. The loop's invariant: the word ends in its line. Assumes nothing.
-use Prim.Native.Nat.{_≤_, _-_}
+-- `vectors::line::number_of` is safe and ends: the loop stops at the last digit. Assumes nothing.
+use Prim.Native.Nat.{_-_}
 use lib.ListN.{length}
 use borrow.Author.Needs.{needs}
-use Rattle.vectors.proofs.line.read_number.Statement.{statement}
-use Rattle.vectors.proofs.line.read_number.Tie as tie
+use Rattle.vectors.proofs.line.number_of.Statement.{statement}
+use Rattle.vectors.proofs.line.number_of.Tie as tie
 
 abbrev Inv-loop : tie.InvT-loop
-Inv-loop s at end i₀ n₀ i n = end ≤ length s
+Inv-loop digits place n₀ i₀ n i = Unit {0}
 
 abbrev μ-loop : tie.MeasureT-loop
-μ-loop s at end i₀ n₀ i n = end - i
-
-next-word-requires : tie.Need-next-word-requires Inv-loop μ-loop
-next-word-requires c κs = search needs
+μ-loop digits place n₀ i₀ n i = length digits - i
 
 returns : tie.Need-returns Inv-loop μ-loop
 returns c = search needs
@@ -56,13 +53,12 @@ loop-again c = search needs
 returns-4 : tie.Need-returns-4 Inv-loop μ-loop
 returns-4 c = search needs
 
-pub read-number-spec : {M : Type 1} → statement M
-read-number-spec =
+pub number-of-spec : {M : Type 1} → statement M
+number-of-spec =
     tie.close
     (tie.spec
     Inv-loop
     μ-loop
-    next-word-requires
     returns
     loop-holds
     shared-slice-read-hex-value
