@@ -8,7 +8,6 @@ use native.Mathlib.Omega.{arith}
 use borrow.Author.Tests.{ltb-true, ltb-false}
 use lib.Dec.{ltb}
 use lib.ListN.{length, getD, length-map}
-use Rattle.rules.specs.Rules.{answers}
 use Rattle.machine.specs.Machine.{Result}
 use Rattle.passes.specs.Passes.{resultAt}
 use Rattle.pn.specs.Results.{resultOf}
@@ -16,7 +15,7 @@ use Rattle.pn.specs.declared.SearchResult.{SearchResult}
 use Rattle.calls.specs.Refusing.{refused-by, by-number}
 use Rattle.searches.specs.Searches.{nodes}
 use Rattle.games_checks.specs.Checks as checks
-use Rattle.games_checks.specs.Checks.{games, recordAt, refusalAt, numberRefusal, refusals, earliest, lowest, sharesOf, settingsRefusal}
+use Rattle.games_checks.specs.Checks.{games, refusalAt, numberRefusal, refusals, earliest, lowest, sharesOf, settingsRefusal}
 use Rattle.games_checks.specs.Common.{commonOf}
 use Rattle.games_checks.specs.Earliest.{EarlyAt}
 use Rattle.games_checks.specs.Passing.{counted, settled}
@@ -24,7 +23,7 @@ use Rattle.games_checks.specs.Naming.{none-early}
 use Rattle.games_checks.specs.declared.Common.{Common}
 use Rattle.games.specs.Games.{partWords, gameAt, GamesOutcome, noResult, refused, judged, gamesCall, PoolAfterGames}
 use Rattle.games.specs.Answers.{outcomeOf, mapped}
-use Rattle.games.specs.Playing.{gameOf, positionsOf, Playable, FirstPassed, SecondPassed}
+use Rattle.games.specs.Playing.{positionsOf, Playable, FirstPassed, SecondPassed}
 use Rattle.games.specs.declared.FirstPass.{FirstPass}
 use Rattle.games.specs.declared.JudgedGames.{JudgedGames}
 
@@ -74,6 +73,14 @@ pool-refused r code index n w e z = go (r .code) (ap (λ (o : GamesOutcome). o .
 pub parts-fit : (words n : ℕ) → n * partWords words n ≤ words
 parts-fit words n = let q = nodes words / n in omega (arith, sym (mul-assoc n q 5), ap (λ m. m * 5) (mul-comm n q), div-mul-le-self (nodes words) n)
 
+-- a part's nodes
+pub part-capacity : (words n : ℕ) → nodes (partWords words n) ≡ nodes words / n
+part-capacity words n = mul-div-cancel (nodes words / n) {n = 5} (omega arith)
+
+-- no record is refused
+pub all-load : (bytes : List ℕ) → earliest (refusals bytes) ≡ 0 → (i : ℕ) → i < games bytes → refusalAt bytes i ≡ 0
+all-load bytes e i l = let q : 0 + i ≡ i = omega arith in ap (refusalAt bytes) (sym q) ∙ none-early (refusalAt bytes) 0 (games bytes) e i l
+
 -- ALL CHECKS PASSED
 module _ (bytes w shares : List ℕ) (c : Common) (some : numberRefusal bytes ≡ 0) (load : earliest (refusals bytes) ≡ 0)
     (fine : settingsRefusal (nodes (length w)) (games bytes) (sharesOf shares (games bytes)) (commonOf c) ≡ 0) where
@@ -83,17 +90,14 @@ module _ (bytes w shares : List ℕ) (c : Common) (some : numberRefusal bytes �
   abbrev size : ℕ
   size = partWords (length w) n
 
-  nodes-are : size / 5 ≡ nodes (length w) / n
-  nodes-are = mul-div-cancel (nodes (length w) / n) {n = 5} (omega arith)
-
   playable : Playable bytes w shares n size c
   playable =
       let k = counted bytes some in
       let s = settled (nodes (length w)) n (sharesOf shares n) (commonOf c) fine in
       record {
         shaped = record {
-          some = omega (arith, nodes-are, s .part-some);
-          most = omega (arith, nodes-are, s .pool-most, div-le-self (nodes (length w)) n);
+          some = omega (arith, part-capacity (length w) n, s .part-some);
+          most = omega (arith, part-capacity (length w) n, s .pool-most, div-le-self (nodes (length w)) n);
           few = k .few;
           fits = parts-fit (length w) n;
           shared = s .shared;
@@ -102,7 +106,7 @@ module _ (bytes w shares : List ℕ) (c : Common) (some : numberRefusal bytes �
           rule-few = omega (arith, s .rule-most);
         };
         records = omega arith;
-        loads = λ i l. let q : 0 + i ≡ i = omega arith in ap (refusalAt bytes) (sym q) ∙ none-early (refusalAt bytes) 0 n load i l;
+        loads = all-load bytes load;
       }
 
   -- the results of both passes are the call's

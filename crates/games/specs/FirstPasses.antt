@@ -16,15 +16,14 @@ use Rattle.passes.specs.Passes.{total, first, spent, unspentAt}
 use Rattle.passes.specs.Laws.{Bounded, total-last, total-one, spent-within}
 use Rattle.pn.specs.Going.{Ranges}
 use Rattle.pn.specs.Searches.{Searchable}
-use Rattle.pn.specs.Keeping.{Stopped}
-use Rattle.pn.specs.declared.Kept.{Kept}
+use Rattle.resume.specs.Keeping.{Stopped}
+use Rattle.resume.specs.declared.Kept.{Kept}
 use Rattle.resume.specs.Lone.{lone, lone-bounded}
 use Rattle.resume.specs.Passing.{first-expanded}
-use Rattle.games_checks.specs.Checks.{recordAt, refusalAt}
+use Rattle.games_checks.specs.Checks.{recordAt}
 use Rattle.games_checks.specs.declared.Common.{Common}
 use Rattle.games.specs.Parts.{cut, next-part, cut-put, cut-before, drop-after}
-use Rattle.games.specs.Playing.{settingsOf, gameOf, positionsOf, Shaped, Playable, StoppedAt, First, Halfway, FirstPassed}
-use Rattle.games.specs.declared.FirstPass.{FirstPass}
+use Rattle.games.specs.Playing.{settingsOf, gameOf, positionsOf, Shaped, Playable, StoppedAt, First, FirstPassed}
 
 module _ {shares : List ℕ} {words n size : ℕ} {c : Common} (g : Shaped shares words n size c) where
   -- each game expands no more than its budget

@@ -2,17 +2,18 @@
 -- after the call. Rests on Games, on search's call and on the third condition.
 use mathlib.Core.Path.{_≡_}
 use mathlib.Core.Bool.{cond}
-use mathlib.Core.List.{List}
+use mathlib.Core.List.{List, [], _∷_}
 use mathlib.Core.Logic.{_⊎_}
 use Prim.Native.Nat.{ℕ, _+_, _*_, _-_, _≤_, _<_}
 use lib.Dec.{eqb}
 use lib.ListN.{length, getD, drop}
 use Rattle.rules.specs.Rules.{answers}
+use Rattle.rules.specs.Refusals.{firstRefusal}
 use Rattle.machine.specs.Machine.{Result}
 use Rattle.passes.specs.Passes.{total, first, spent, grantAt}
-use Rattle.searches.specs.Searches.{budgetMost, Limits, limits, Answered, searchCall}
+use Rattle.searches.specs.Searches.{budgetMost, Limits, limits, nodes, Answered, searchCall}
 use Rattle.searches.specs.ThirdCondition.{ThirdCondition}
-use Rattle.games_checks.specs.Checks.{gamesLeast, gamesMost, games, recordAt, numberRefusal, refusalAt, Common, sharesOf}
+use Rattle.games_checks.specs.Checks.{gamesLeast, gamesMost, games, recordAt, numberRefusal, refusalAt, refusals, earliest, Common, sharesOf, settingsRefusal}
 use Rattle.games.specs.Games.{partWords, gameAt, GamesOutcome, noResult, gamesCall}
 
 -- Game i's result in an answer, and its grant.
@@ -32,7 +33,8 @@ granting C grant = limits (C .limit) grant (C .interval)
 
 -- A refusal's number and the index of the game that it names.
 pub record Named (bytes : List ℕ) (number index : ℕ) : Type 0 where
-  -- The record of that game is refused with that number;
+  -- The call is refused, with the number of the check that refuses the record of that game;
+  pub refused : number ≡ 0 → ⊥
   pub game : index < games bytes
   pub refuses : refusalAt bytes index ≡ number
   -- no record is refused by an earlier check, and none of a lower game by this one.
@@ -40,10 +42,15 @@ pub record Named (bytes : List ℕ) (number index : ℕ) : Type 0 where
   pub lowest : (j : ℕ) → j < index → refusalAt bytes j ≡ number → ⊥
 
 pub record GamesStatement (bytes shares : List ℕ) (C : Common) (before after : List ℕ) (o : GamesOutcome) : Type 0 where
-  -- Up to eight games are judged together.
-  pub few : o .number ≡ 0 → (gamesLeast ≤ games bytes) × (games bytes ≤ gamesMost)
-  -- The pool is cut into equal parts of whole nodes, one a game, and what remains is untouched.
-  pub parts : o .number ≡ 0 → games bytes * partWords (length before) (games bytes) ≤ length before
+  -- Checks 1 and 20, then those of the records, then 8 of a part, 9 of the whole pool, 10 and 20: the number is that of the first that refuses, and 0 if none does.
+  pub checks : o .number
+      ≡ firstRefusal (numberRefusal bytes ∷ earliest (refusals bytes) ∷ settingsRefusal (nodes (length before)) (games bytes) (sharesOf shares (games bytes)) C ∷ [])
+  -- Up to eight games are judged together, 21 bytes a game.
+  pub few : o .number ≡ 0 → (gamesLeast ≤ games bytes) × (games bytes ≤ gamesMost) × (length bytes ≡ games bytes * 21)
+  -- The pool is cut into equal parts of whole nodes, one a game, as large as they can be; the remainder is untouched.
+  pub parts : o .number ≡ 0
+      → let part = nodes (partWords (length before) (games bytes)) in
+      (partWords (length before) (games bytes) ≡ part * 5) × (games bytes * part ≤ nodes (length before)) × (nodes (length before) < games bytes * (part + 1))
   pub remainder : o .number ≡ 0 → let end = games bytes * partWords (length before) (games bytes) in (length after ≡ length before) × (drop end after ≡ drop end before)
   -- Shares past the last game are not read.
   pub not-read : (others : List ℕ) → ((i : ℕ) → i < games bytes → getD others i 0 ≡ getD shares i 0) → gamesCall bytes (length before) others C ≡ o
@@ -54,16 +61,19 @@ pub record GamesStatement (bytes shares : List ℕ) (C : Common) (before after :
   -- In the first pass each game runs up to its share. In the second every game that its budget stopped then goes on with all that is still unspent when its turn comes,
   -- so it is granted its share and that; every other one its share.
   pub grants : o .number ≡ 0 → (i : ℕ) → i < games bytes
-      → grantOfGame bytes shares C (length before) i
-      ≡ cond (eqb (first (gameAt bytes (length before) shares C i) .cause) 1) (getD shares i 0 + (C .allowance - spentBefore bytes shares C (length before) o i)) (getD shares i 0)
+      → (spentBefore bytes shares C (length before) o i ≤ C .allowance)
+      × (grantOfGame bytes shares C (length before) i
+      ≡ cond (eqb (first (gameAt bytes (length before) shares C i) .cause) 1) (getD shares i 0 + (C .allowance - spentBefore bytes shares C (length before) o i)) (getD shares i 0))
   -- There are as many results as games.
   pub as-many : o .number ≡ 0 → (o .count ≡ games bytes) × ((i : ℕ) → games bytes ≤ i → resultOfGame o i ≡ noResult)
   -- Each is that of a lone search with the game's part as its pool, the common settings, and the grant as its budget, whatever words the pool holds;
   pub each : o .number ≡ 0 → (i : ℕ) → i < games bytes
       → searchCall (recordAt bytes i) (partWords (length before) (games bytes)) (C .rule) (granting C (grantOfGame bytes shares C (length before) i)) ≡ Answered (resultOfGame o i)
-  -- so it meets the third condition with any accepted search of its record under the rule.
+  -- so it meets the third condition, as the first and as the second, with any accepted search of its record under the rule.
   pub third : o .number ≡ 0 → (i : ℕ) → i < games bytes → (words : ℕ) (T : Limits) (s : Result) → searchCall (recordAt bytes i) words (C .rule) T ≡ Answered s
-      → ThirdCondition (recordAt bytes i) (C .rule) (granting C (grantOfGame bytes shares C (length before) i)) T (partWords (length before) (games bytes)) words (resultOfGame o i) s
+      → let S = granting C (grantOfGame bytes shares C (length before) i) in
+      ThirdCondition (recordAt bytes i) (C .rule) S T (partWords (length before) (games bytes)) words (resultOfGame o i) s
+      × ThirdCondition (recordAt bytes i) (C .rule) T S words (partWords (length before) (games bytes)) s (resultOfGame o i)
   -- No game is granted less than its share, and the expansions of all together never exceed the allowance.
   pub least : o .number ≡ 0 → (i : ℕ) → i < games bytes → getD shares i 0 ≤ grantOfGame bytes shares C (length before) i
   pub within : o .number ≡ 0 → total (answers (λ i. resultOfGame o i .expanded) 0 (games bytes)) ≤ C .allowance

@@ -1,4 +1,4 @@
--- What the two passes ask for and come to, game by game, as the code goes through them. Rests on passes' definitions, pn's Stopped, and Parts.
+-- What the two passes ask for and come to, game by game, as the code goes through them. Rests on passes' definitions, resume's Stopped, and Parts.
 use mathlib.Core.Path.{_≡_}
 use mathlib.Core.List.{List}
 use Prim.Native.Nat.{ℕ, _+_, _*_, _-_, _/_, _≤_, _<_}
@@ -8,10 +8,10 @@ use Rattle.rules.specs.Record.{positionOf}
 use Rattle.machine.specs.Place.{pool-max}
 use Rattle.passes.specs.Passes.{OneGame, total, spent, unspentAt, resultAt}
 use Rattle.pn.specs.Results.{resultOf}
-use Rattle.pn.specs.Keeping.{Stopped}
 use Rattle.pn.specs.declared.Settings.{Settings}
-use Rattle.pn.specs.declared.Kept.{Kept}
 use Rattle.pn.specs.declared.SearchResult.{SearchResult}
+use Rattle.resume.specs.Keeping.{Stopped}
+use Rattle.resume.specs.declared.Kept.{Kept}
 use Rattle.resume.specs.Lone.{lone}
 use Rattle.searches.specs.Searches.{budgetMost}
 use Rattle.games_checks.specs.Checks.{recordAt, refusalAt, sharesOf}

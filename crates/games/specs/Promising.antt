@@ -1,26 +1,24 @@
 -- The call is as promised. Rests on GamesStatement, Calling, the checks' laws and the passes' laws.
 use mathlib.Core.Path.{_≡_, refl, ap, sym, _∙_, subst}
 use mathlib.Core.Bool.{Bool, true, false, cond}
-use mathlib.Core.List.{List}
+use mathlib.Core.List.{List, [], _∷_}
 use mathlib.Core.Logic.{_⊎_, inl, inr}
 use Prim.Native.Nat.{ℕ, zero, suc, _+_, _*_, _-_, _/_, _≤_, _<_}
 use native.Mathlib.Omega.{arith}
-use native.Mathlib.Nat.{div-le-self, mul-div-cancel}
+use native.Mathlib.Nat.{div-le-self, mul-div-le, lt-mul-div-succ, div-add-mod'}
 use borrow.Author.Tests.{lt-ltb, le-ltb, ltb-true, ltb-false}
 use lib.Dec.{ltb, eqb}
-use lib.ListN.{length, getD, replicate, getD-replicate}
-use Rattle.rules.specs.Rules.{answers, any}
+use lib.ListN.{length, getD, replicate, List·getD-eq-default}
+use Rattle.rules.specs.Rules.{answers}
 use Rattle.rules.specs.Record.{positionOf}
 use Rattle.rules.specs.Refusals.{firstRefusal}
-use Rattle.rules.specs.Answers.{answers-zero, length-answers}
+use Rattle.rules.specs.Answers.{answers-zero}
 use Rattle.machine.specs.Machine.{Result}
-use Rattle.machine.specs.Reached.{PoolInRange}
-use Rattle.plain.specs.Plain.{plainSearch}
-use Rattle.passes.specs.Passes.{OneGame, total, first, spent, unspentAt, grantAt, resultAt, expandedBy}
-use Rattle.passes.specs.Laws.{Bounded, total-one, total-same, grant-least, unspent-is, grant-within, all-within, result-alike}
+use Rattle.passes.specs.Passes.{OneGame, total, first, spent, unspentAt, resultAt, expandedBy}
+use Rattle.passes.specs.Laws.{Bounded, accounts, total-one, total-same, grant-least, unspent-is, grant-within, all-within, result-alike}
 use Rattle.resume.specs.Lone.{lone-bounded}
 use Rattle.calls.specs.Calls.{lastRule, answerUnless}
-use Rattle.searches.specs.Searches.{poolLeast, poolMost, intervalLeast, intervalMost, budgetMost, Limits, nodes, searchRefusal, Answered, searchCall}
+use Rattle.searches.specs.Searches.{poolLeast, poolMost, intervalLeast, intervalMost, budgetMost, nodes, searchRefusal, Answered, searchCall}
 use Rattle.searches.specs.SearchAnswers.{search-answered}
 use Rattle.searches.specs.TwoSearches.{third-condition}
 use Rattle.games_checks.specs.Checks.{gamesMost, games, recordAt, numberRefusal, refusalAt, refusals, earliest, lowest, Common, sharesOf, settingsRefusal}
@@ -28,7 +26,7 @@ use Rattle.games_checks.specs.Passing.{counted, Settled, settled}
 use Rattle.games_checks.specs.Naming.{none-early, early-none, earliest-least, lowest-first, lowest-found}
 use Rattle.games.specs.Games.{partWords, gameAt, GamesOutcome, noResult, refused, judged, gamesCall, PoolAfterGames}
 use Rattle.games.specs.Answers.{outcomeOf}
-use Rattle.games.specs.Calling.{parts-fit, call-judged, pool-refused}
+use Rattle.games.specs.Calling.{part-capacity, all-load, call-judged, pool-refused}
 use Rattle.games.specs.GamesStatement.{resultOfGame, grantOfGame, spentBefore, granting, Named, GamesStatement}
 use Rattle.games.specs.declared.JudgedGames.{JudgedGames}
 
@@ -42,6 +40,14 @@ module _ (rs : List ℕ) (x : GamesOutcome) where
   passes-all zero zero (suc c) e = absurd (omega arith)
   passes-all zero (suc b) c e = absurd (omega arith)
   passes-all (suc a) b c e = absurd (omega arith)
+
+  -- the first that refuses
+  first-is : x .number ≡ 0 → (a b c : ℕ) → chain a b c .number ≡ firstRefusal (a ∷ b ∷ c ∷ [])
+  unfolding firstRefusal
+  first-is q zero zero zero = q
+  first-is q zero zero (suc c) = refl
+  first-is q zero (suc b) c = refl
+  first-is q (suc a) b c = refl
 
   -- a record's refusal
   of-record : (a b c : ℕ) → a ≡ 0 → (b ≡ 0 → ⊥) → (chain a b c .number ≡ b) × (chain a b c .index ≡ lowest b rs)
@@ -65,12 +71,6 @@ module _ (rs : List ℕ) (x : GamesOutcome) where
   refused-empty q zero zero (suc c) z = (refl, refl)
   refused-empty q zero (suc b) c z = (refl, refl)
   refused-empty q (suc a) b c z = (refl, refl)
-
--- past a list's end stands what is asked for instead
-nothing-past : {A : Type 0} (f : ℕ → A) (i n k : ℕ) (d : A) → n ≤ k → getD (answers f i n) k d ≡ d
-nothing-past f i zero k d l = refl
-nothing-past f i (suc n) zero d l = absurd (omega arith)
-nothing-past f i (suc n) (suc k) d l = nothing-past f (suc i) n k d (omega arith)
 
 alike : {A : Type 0} (f g : ℕ → A) (i n : ℕ) → ((k : ℕ) → k < i + n → f k ≡ g k) → answers f i n ≡ answers g i n
 alike f g i zero h = refl
@@ -101,6 +101,10 @@ module _ (bytes shares : List ℕ) (C : Common) (w : List ℕ) where
   unfolding gamesCall
   accepted z = passes-all (refusals bytes) answer (numberRefusal bytes) (earliest (refusals bytes)) checked z
 
+  checks : o .number ≡ firstRefusal (numberRefusal bytes ∷ earliest (refusals bytes) ∷ checked ∷ [])
+  unfolding gamesCall
+  checks = first-is (refusals bytes) answer refl (numberRefusal bytes) (earliest (refusals bytes)) checked
+
   -- A refused record
   at-zero : (k : ℕ) → refusalAt bytes (0 + k) ≡ refusalAt bytes k
   at-zero k = let q : 0 + k ≡ k = omega arith in ap (refusalAt bytes) q
@@ -109,6 +113,7 @@ module _ (bytes shares : List ℕ) (C : Common) (w : List ℕ) where
   named-by e q z =
       let found = lowest-found (refusalAt bytes) 0 (games bytes) e q z in
       record {
+        refused = z;
         game = found .0;
         refuses = sym (at-zero (lowest e (refusals bytes))) ∙ found .1;
         earliest = λ j l y. omega (arith, q, at-zero j, earliest-least (refusalAt bytes) 0 (games bytes) j l (λ x. y (sym (at-zero j) ∙ x)));
@@ -142,7 +147,7 @@ module _ (bytes shares : List ℕ) (C : Common) (w : List ℕ) where
     number-none = accepted z .0
 
     loads : (i : ℕ) → i < games bytes → refusalAt bytes i ≡ 0
-    loads i l = sym (at-zero i) ∙ none-early (refusalAt bytes) 0 (games bytes) (accepted z .1) i l
+    loads = all-load bytes (accepted z .1)
 
     fine : Settled (nodes (length w)) (games bytes) (sharesOf shares (games bytes)) C
     fine = settled (nodes (length w)) (games bytes) (sharesOf shares (games bytes)) C (accepted z .2)
@@ -150,14 +155,24 @@ module _ (bytes shares : List ℕ) (C : Common) (w : List ℕ) where
     is-answer : o ≡ answer
     is-answer = sym (call-judged bytes (length w) shares C (accepted z .0) (accepted z .1) (accepted z .2))
 
-    part-nodes : size / 5 ≡ nodes (length w) / games bytes
-    part-nodes = mul-div-cancel (nodes (length w) / games bytes) {n = 5} (omega arith)
-
     part-least : 1 ≤ size / 5
-    part-least = omega (arith, part-nodes, fine .part-some)
+    part-least = omega (arith, part-capacity (length w) (games bytes), fine .part-some)
 
     part-most : size / 5 ≤ 16777216
-    part-most = omega (arith, part-nodes, fine .pool-most, div-le-self (nodes (length w)) (games bytes))
+    part-most = omega (arith, part-capacity (length w) (games bytes), fine .pool-most, div-le-self (nodes (length w)) (games bytes))
+
+    -- they are as large as they can be
+    parts : (size ≡ size / 5 * 5) × (games bytes * (size / 5) ≤ nodes (length w)) × (nodes (length w) < games bytes * (size / 5 + 1))
+    parts =
+        let q = part-capacity (length w) (games bytes) in
+        let some : 0 < games bytes = counted bytes number-none .some in (
+          ap (λ m. m * 5) (sym q),
+          subst (λ m. games bytes * m ≤ nodes (length w)) (sym q) (mul-div-le (nodes (length w)) (games bytes)),
+          subst (λ m. nodes (length w) < games bytes * (m + 1)) (sym q) (lt-mul-div-succ (nodes (length w)) some),
+        )
+
+    few : (1 ≤ games bytes) × (games bytes ≤ gamesMost) × (length bytes ≡ games bytes * 21)
+    few = let k = counted bytes number-none in (k .some, k .few, omega (arith, k .whole, div-add-mod' (length bytes) 21))
 
     bounded : (k : ℕ) → Bounded (game k)
     bounded k = lone-bounded (C .rule) (size / 5) (C .limit) (C .interval) (getD shares k 0) (positionOf (recordAt bytes k)) (record { some = part-least; most = part-most })
@@ -175,7 +190,7 @@ module _ (bytes shares : List ℕ) (C : Common) (w : List ℕ) where
         go true e =
             answers-zero (λ k. cond (ltb k (games bytes)) (resultAt game (C .allowance) (games bytes) k) noResult) 8 i noResult (ltb-true i 8 e)
             ∙ ap (λ b. cond b (resultAt game (C .allowance) (games bytes) i) noResult) (le-ltb i (games bytes) l)
-        go false e = nothing-past (λ k. cond (ltb k (games bytes)) (resultAt game (C .allowance) (games bytes) k) noResult) 0 8 i noResult (ltb-false i 8 e)
+        go false e = List·getD-eq-default (answers (λ k. cond (ltb k (games bytes)) (resultAt game (C .allowance) (games bytes) k) noResult) 0 8) noResult (ltb-false i 8 e)
 
     -- what the first games expanded
     expanded-is : (m : ℕ) → m ≤ games bytes → expandedBy game (C .allowance) (games bytes) m ≡ total (answers (λ k. resultOfGame o k .expanded) 0 m)
@@ -190,13 +205,16 @@ module _ (bytes shares : List ℕ) (C : Common) (w : List ℕ) where
         omega (arith, ap (λ k. getD shares k 0) q, total-one (λ k. getD shares k 0) 0 (games bytes) i l, shared, fine .allowance-most)
 
     grants : (i : ℕ) → i < games bytes
-        → grantOfGame bytes shares C (length w) i
-        ≡ cond (eqb (first (game i) .cause) 1) (getD shares i 0 + (C .allowance - spentBefore bytes shares C (length w) o i)) (getD shares i 0)
+        → (spentBefore bytes shares C (length w) o i ≤ C .allowance)
+        × (grantOfGame bytes shares C (length w) i
+        ≡ cond (eqb (first (game i) .cause) 1) (getD shares i 0 + (C .allowance - spentBefore bytes shares C (length w) o i)) (getD shares i 0))
     grants i l =
-        let q : i + (games bytes - i) ≡ games bytes = omega arith in
-        ap (λ u. cond (eqb (first (game i) .cause) 1) (getD shares i 0 + u) (getD shares i 0))
-        (unspent-is game bounded (C .allowance) (games bytes) shared i (games bytes - i) q
-        ∙ ap (λ x. C .allowance - (x + spent game i (games bytes - i))) (expanded-is i (omega arith)))
+        let q : i + (games bytes - i) ≡ games bytes = omega arith in (
+          omega (arith, accounts game bounded (C .allowance) (games bytes) shared i (games bytes - i) q, expanded-is i (omega arith)),
+          ap (λ u. cond (eqb (first (game i) .cause) 1) (getD shares i 0 + u) (getD shares i 0))
+              (unspent-is game bounded (C .allowance) (games bytes) shared i (games bytes - i) q
+              ∙ ap (λ x. C .allowance - (x + spent game i (games bytes - i))) (expanded-is i (omega arith))),
+        )
 
     -- every check of the lone search is passed
     lone-accepted : (i : ℕ) → i < games bytes → searchRefusal (recordAt bytes i) (nodes size) (C .rule) (granting C (grantOfGame bytes shares C (length w) i)) ≡ 0
@@ -244,8 +262,9 @@ module _ (bytes shares : List ℕ) (C : Common) (w : List ℕ) where
 pub games-statement : (bytes shares : List ℕ) (C : Common) (w v : List ℕ) → PoolAfterGames (gamesCall bytes (length w) shares C .number) (games bytes) w v
     → GamesStatement bytes shares C w v (gamesCall bytes (length w) shares C)
 games-statement bytes shares C w v pool = record {
-  few = λ z. let k = counted bytes (accepted bytes shares C w z .0) in (k .some, k .few);
-  parts = λ z. parts-fit (length w) (games bytes);
+  checks = checks bytes shares C w;
+  few = few bytes shares C w;
+  parts = parts bytes shares C w;
   remainder = λ z. left-over (gamesCall bytes (length w) shares C .number) z pool;
   not-read = not-read bytes shares C w;
   share-range = share-range bytes shares C w;
@@ -254,7 +273,9 @@ games-statement bytes shares C w v pool = record {
   grants = grants bytes shares C w;
   as-many = λ z. (ap (λ (x : GamesOutcome). x .count) (is-answer bytes shares C w z), past-games bytes shares C w z);
   each = each bytes shares C w;
-  third = λ z i l words T s e. third-condition _ _ _ T _ words (resultOfGame (gamesCall bytes (length w) shares C) i) s (each bytes shares C w z i l) e;
+  third = λ z i l words T s e.
+      let r = resultOfGame (gamesCall bytes (length w) shares C) i in
+      (third-condition _ _ _ T _ words r s (each bytes shares C w z i l) e, third-condition _ _ T _ words _ s r e (each bytes shares C w z i l));
   least = λ z i l. grant-least (gameAt bytes (length w) shares C i) (bounded bytes shares C w z i) (unspentAt (gameAt bytes (length w) shares C) (C .allowance) (games bytes) i);
   within = within bytes shares C w;
   named = named bytes shares C w;

@@ -1,26 +1,26 @@
 -- The second pass from one game to the next. Rests on FirstPasses.
 use mathlib.Core.Path.{_≡_, refl, ap, sym, _∙_, subst}
 use mathlib.Core.List.{List}
-use Prim.Native.Nat.{ℕ, suc, _+_, _*_, _-_, _/_, _≤_, _<_}
+use Prim.Native.Nat.{ℕ, suc, _+_, _*_, _-_, _≤_, _<_}
 use native.Mathlib.Decide.{ℕ-discrete}
 use native.Mathlib.Omega.{arith}
-use lib.ListN.{length, getD, drop, set, length-set}
+use lib.ListN.{length, getD, set, length-set}
 use lib.Seq.{getD-set-same, getD-set-other}
 use borrow.Rule.Slice.PartMut.{putMid, mid-len, same-len-mid}
 use Rattle.rules.specs.Rules.{Position}
-use Rattle.passes.specs.Passes.{total, first, spent, grantWith, unspentAfter, unspentAt, resultAt, expandedBy}
+use Rattle.passes.specs.Passes.{OneGame, total, grantWith, unspentAfter, unspentAt, resultAt}
 use Rattle.passes.specs.Laws.{accounts}
 use Rattle.pn.specs.Results.{resultOf}
-use Rattle.pn.specs.Keeping.{Stopped}
-use Rattle.pn.specs.declared.Kept.{Kept}
 use Rattle.pn.specs.declared.SearchResult.{SearchResult}
+use Rattle.resume.specs.Keeping.{Stopped}
+use Rattle.resume.specs.declared.Kept.{Kept}
 use Rattle.resume.specs.Lone.{lone}
 use Rattle.resume.specs.Passing.{Passable, Passes}
 use Rattle.resume.specs.declared.Turn.{Turn}
 use Rattle.games_checks.specs.declared.Common.{Common}
 use Rattle.games.specs.Games.{noResult}
 use Rattle.games.specs.Parts.{cut, next-part, cut-after, drop-after}
-use Rattle.games.specs.Playing.{settingsOf, gameOf, Shaped, StoppedAt, Halfway, Turns, Second, SecondPassed}
+use Rattle.games.specs.Playing.{settingsOf, gameOf, Shaped, Halfway, Turns, Second, SecondPassed}
 use Rattle.games.specs.FirstPasses.{games-bounded, part-fits, part-nodes, part-ranges, part-expanded}
 
 module _ {shares : List ℕ} {n size : ℕ} {c : Common} {kept : List Kept} {left : ℕ} {w₀ w : List ℕ} {u : ℕ} {results : List SearchResult} {i : ℕ}
@@ -67,10 +67,12 @@ module _ {shares : List ℕ} {n size : ℕ} {c : Common} {kept : List Kept} {lef
 
       -- by the definition of the two passes
       module _ (pos : ℕ → Position) (q : Halfway pos shares n size c w₀ kept left) where
+        abbrev with-nodes : ℕ → OneGame
+        with-nodes m = lone (c .rule) m (c .limit) (c .interval) (getD shares i 0) (pos i)
+
         here : (resultOf (t .result) ≡ gameOf pos shares size c i .search (grantWith (gameOf pos shares size c i) u)) × (t .unspent ≡ unspentAfter (gameOf pos shares size c i) u)
         here =
-            subst (λ m. (resultOf (t .result) ≡ lone (c .rule) m (c .limit) (c .interval) (getD shares i 0) (pos i) .search (grantWith (lone (c .rule) m (c .limit) (c .interval) (getD shares i 0) (pos i)) u))
-            × (t .unspent ≡ unspentAfter (lone (c .rule) m (c .limit) (c .interval) (getD shares i 0) (pos i)) u)) (part-nodes g w (h .long) i l)
+            subst (λ m. (resultOf (t .result) ≡ with-nodes m .search (grantWith (with-nodes m) u)) × (t .unspent ≡ unspentAfter (with-nodes m) u)) (part-nodes g w (h .long) i l)
             (passes (pos i) (stopped pos q) .result-is, passes (pos i) (stopped pos q) .unspent-is)
 
         result-here : resultOf (t .result) ≡ resultAt (gameOf pos shares size c) (c .allowance) n i

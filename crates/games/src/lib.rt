@@ -13,11 +13,11 @@ ghost use Rattle.games.specs.Answers.{outcomeOf};
 ghost use Rattle.games.specs.Playing.{Playable, FirstPassed, Halfway, SecondPassed};
 use games_checks::Common;
 use games_checks::MOST_GAMES;
-use pn::Kept;
 use pn::SearchResult;
 use pn::Settings;
 use prove::Evaluation;
 use record::RECORD_LENGTH;
+use resume::Kept;
 
 // The words of a node.
 const NODE: usize = 5;
@@ -57,7 +57,7 @@ fn first_pass(
             budget: shares[i],
             interval: c.interval,
         };
-        let k = pn::start(&mut words[a..e], root, s);
+        let k = resume::first(&mut words[a..e], root, s);
         let x = k.running;
         let p = x.prover;
         unspent -= p.expanded;
@@ -153,7 +153,7 @@ pub fn judge_games(
     ensures pool { λ r. ⌜ PoolAfterGames (r .code) (games (now (bytes .entry))) (now (words .entry)) (now (words .exit)) ⌝ }
     ensures promised { λ r. ⌜ GamesStatement (now (bytes .entry)) (now (shares .entry)) (commonOf c) (now (words .entry)) (now (words .exit)) (outcomeOf r) ⌝ }
 {
-    let number = games_checks::number_of_games(bytes);
+    let number = games_checks::check_number(bytes);
     if number != 0 {
         return refuse(number, 0);
     }
@@ -163,7 +163,7 @@ pub fn judge_games(
         return refuse(early.code, early.index);
     }
     let nodes = node_pool::capacity(words);
-    let code = games_checks::settings(nodes, shares, n, c);
+    let code = games_checks::check_settings(nodes, shares, n, c);
     if code != 0 {
         return refuse(code, 0);
     }

@@ -14,9 +14,9 @@ pub record EarlyAt (i : ℕ) (ns : List ℕ) (code index : ℕ) : Type 0 where
   pub code-is : code ≡ earliest ns
   pub index-is : (code ≡ 0 → ⊥) → index ≡ i + lowest code ns
 
-pub early-none : (i : ℕ) → EarlyAt i [] 0 0
+pub early-empty : (i : ℕ) → EarlyAt i [] 0 0
 unfolding earliest
-early-none i = record { code-is = refl; index-is = λ n. absurd (n refl) }
+early-empty i = record { code-is = refl; index-is = λ n. absurd (n refl) }
 
 earlier-alone : (n : ℕ) → earlier n 0 ≡ n
 unfolding earlier
@@ -63,7 +63,7 @@ pub record Looked (bytes : List ℕ) (n i code index : ℕ) : Type 0 where
   pub early : EarlyAt i (answers (refusalAt bytes) i (n - i)) code index
 
 pub looked-start : (bytes : List ℕ) (n : ℕ) → Looked bytes n n 0 0
-looked-start bytes n = let q : 0 ≡ n - n = omega arith in record { low = omega arith; early = subst (λ k. EarlyAt n (answers (refusalAt bytes) n k) 0 0) q (early-none n) }
+looked-start bytes n = let q : 0 ≡ n - n = omega arith in record { low = omega arith; early = subst (λ k. EarlyAt n (answers (refusalAt bytes) n k) 0 0) q (early-empty n) }
 
 pub looked-next : (bytes : List ℕ) (n i j code index found code′ index′ : ℕ) → j ≡ suc i → Looked bytes n j code index
     → found ≡ refusal (take (i * 21 + 21 - i * 21) (drop (i * 21) bytes))

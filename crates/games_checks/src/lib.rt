@@ -32,7 +32,7 @@ pub struct Common {
 }
 
 // Checks 1 and 20: the bytes are no whole number of records; no game, or more than eight. The number of the first that refuses, or 0.
-pub fn number_of_games(bytes: &[u8]) -> u8
+pub fn check_number(bytes: &[u8]) -> u8
     ensures { λ r. ⌜ r ≡ numberRefusal (now (bytes .entry)) ⌝ }
 {
     let games = bytes.len() / RECORD_LENGTH;
@@ -114,7 +114,7 @@ fn added(share: u64, s: Sum) -> Sum
 }
 
 // The shares of n games, from the last down.
-fn summed(shares: &[u64; 8], n: usize) -> Sum
+fn summed(shares: &[u64; MOST_GAMES], n: usize) -> Sum
     requires { ⌜ n ≤ 8 ⌝ }
     ensures { λ r. ⌜ Summing (sharesOf (now (shares .entry)) n) (r .above) (r .total) ⌝ }
 {
@@ -132,7 +132,7 @@ fn summed(shares: &[u64; 8], n: usize) -> Sum
 }
 
 // Checks 8 of a part, 9 of the whole pool, 10 and 20, of a pool with so many nodes and n games: the number of the first that refuses, or 0.
-pub fn settings(nodes: usize, shares: &[u64; 8], n: usize, c: Common) -> u8
+pub fn check_settings(nodes: usize, shares: &[u64; MOST_GAMES], n: usize, c: Common) -> u8
     requires { ⌜ (0 < n) × (n ≤ 8) ⌝ }
     ensures { λ r. ⌜ r ≡ settingsRefusal nodes n (sharesOf (now (shares .entry)) n) (commonOf c) ⌝ }
 {

@@ -1,12 +1,11 @@
 -- Laws of the two passes, for games that expand no more than their budget, and all of it where it stops them. Rests on Passes.
-use mathlib.Core.Path.{_≡_, refl, ap, sym, _∙_}
+use mathlib.Core.Path.{_≡_, refl, ap, _∙_}
 use mathlib.Core.Bool.{Bool, true, false, cond}
 use Prim.Native.Nat.{ℕ, zero, suc, _+_, _-_, _≤_, _<_}
 use native.Mathlib.Omega.{arith}
 use borrow.Author.Tests.{eqb-true}
 use lib.Dec.{eqb}
 use Rattle.rules.specs.Rules.{answers}
-use Rattle.machine.specs.Machine.{Result}
 use Rattle.passes.specs.Passes.{OneGame, total, first, spent, grantWith, unspentAfter, unspentAt, grantAt, resultAt, expandedBy}
 
 -- What is asked of a game

@@ -26,7 +26,7 @@ spent game i n = total (answers (λ k. first (game k) .expanded) i n)
 abbrev pub grantWith : OneGame → (unspent : ℕ) → ℕ
 grantWith g unspent = cond (eqb (first g .cause) 1) (g .share + unspent) (g .share)
 
--- What is unspent after its turn: what was before it, and what the game has not expanded of that.
+-- What is unspent after its turn: what was before it, less what the game expanded in it.
 abbrev pub unspentAfter : OneGame → (unspent : ℕ) → ℕ
 unspentAfter g unspent = first g .expanded + unspent - g .search (grantWith g unspent) .expanded
 

@@ -9,4 +9,3 @@ pub mod Rounding
 pub mod Steps
 pub mod Stepping
 pub mod Searches
-pub mod Keeping

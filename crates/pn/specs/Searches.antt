@@ -7,6 +7,7 @@ use native.Mathlib.Omega.{arith}
 use lib.ListN.{length}
 use Rattle.rules.specs.Rules.{Position}
 use Rattle.rules.specs.Record.{Accepted, sideBit}
+use Rattle.game.specs.Words.{Holds}
 use Rattle.machine.specs.Machine as machine
 use Rattle.machine.specs.Rounds.{start-ok}
 use Rattle.plain.specs.Plain.{gameOf, searchOf}
@@ -41,6 +42,10 @@ pub record Looping (p : Position) (s : Settings) (w v path ps : List ℕ) (x : R
 -- it has stopped, whichever position it was begun with
 abbrev pub Ran : (w path ps : List ℕ) (x : Running) (s : Settings) (attacker : ℕ) (v path′ ps′ : List ℕ) (r : Running) → Type 0
 Ran w path ps x s attacker v path′ ps′ r = (r .stop ≡ true) × ((g : Steppable w path ps x s attacker) → Looping (g .start) s w v path′ ps′ r)
+
+-- it has stopped, whichever position g holds, from its root on
+abbrev pub Started : (g : List ℕ) (s : Settings) (w v path ps : List ℕ) (r : Running) → Type 0
+Started g s w v path ps r = (r .stop ≡ true) × ((p : Position) → Holds p g 0 → Accepted p → Looping p s w v path ps r)
 
 -- the loop, for whichever position it was begun with
 pub record Loop (w path₀ ps₀ : List ℕ) (x₀ : Running) (s : Settings) (root : ℕ) (v path ps todo : List ℕ) (x : Running) : Type 0 where
@@ -113,3 +118,21 @@ module _ {w path₀ ps₀ : List ℕ} {x₀ : Running} {s : Settings} {root : �
           let t : Stepped (g .start) s x v u path′ ps′ y = subst (λ p. Stepped p s x v u path′ ps′ y) (k .1) (stepped (k .0)) in
           record { going = t .going; past = beyond-trans w v u (l .long) (l .each g .past) (t .past) };
     }
+
+-- from the root on, with the pool as it was lent
+pub started : (p : Position) (s : Settings) (w v u path₀ ps₀ path ps : List ℕ) (y : Prover) (x : Running) (root : ℕ)
+    → Accepted p → Ranges w s → root ≡ sideBit (p .side) → Begun (s .rule) p w v path₀ ps₀ y
+    → ((g : Steppable v path₀ ps₀ (record { prover = y; tick = s .interval; stop = false; cause = 0 }) s root) → Looping (g .start) s v u path ps x)
+    → Looping p s w u path ps x
+started p s w v u path₀ ps₀ path ps y x root a ranges er b each =
+    let k = to-loop p s w v path₀ ps₀ y root a ranges er b in
+    let here : Looping p s v u path ps x = subst (λ q. Looping q s v u path ps x) (k .1) (each (k .0)) in
+    record { going = here .going; past = beyond-trans w v u (b .long) (b .past) (here .past) }
+
+-- at the end
+pub search-done : (p : Position) (s : Settings) (w v path ps : List ℕ) (x : Running) (r : SearchResult) → length v ≡ length w → Looping p s w v path ps x
+    → ((q : Position) (ps′ : List ℕ) → Going q s v path ps′ x → resultOf r ≡ searchOf (s .rule) (machineSettings v s) q) → Searched p s w v r
+search-done p s w v path ps x r long here result = record {
+  result-is = result p ps (here .going) ∙ ap (λ (T : machine.Settings). searchOf (s .rule) T p) (settings-long w v s long);
+  past = here .past;
+}

@@ -13,15 +13,13 @@ ghost use Rattle.game.specs.Words.{Holds};
 ghost use Rattle.machine.specs.Machine.{verdictOf};
 ghost use Rattle.plain.specs.Plain.{searchOf};
 ghost use Rattle.prove.specs.Numbers.{verdict};
-ghost use Rattle.words.specs.Words.{Beyond};
 ghost use Rattle.words.specs.Freeing.{plies};
 ghost use Rattle.pn.specs.Results.{machineSettings, resultOf};
 ghost use Rattle.pn.specs.Going.{Going};
 ghost use Rattle.pn.specs.Beginning.{Startable, Begun};
 ghost use Rattle.pn.specs.Ticked.{Ticked};
 ghost use Rattle.pn.specs.Stepping.{Steppable, Unsolved, Stepped};
-ghost use Rattle.pn.specs.Searches.{Searchable, Searched, Ran};
-ghost use Rattle.pn.specs.Keeping.{Runnable, WentOn, Stopped};
+ghost use Rattle.pn.specs.Searches.{Searchable, Searched, Ran, Started};
 use game::Game;
 use game::Move;
 use node_pool::NO_NODE;
@@ -47,14 +45,6 @@ pub struct Running {
     pub tick: u64,
     pub stop: bool,
     pub cause: u8,
-}
-
-// A search with what it goes on with, beside its pool: the line that it follows, with the positions on it, and the root's side to move.
-pub struct Kept {
-    pub running: Running,
-    pub path: [u32; PLIES],
-    pub positions: [u16; POSITIONS],
-    pub attacker: usize,
 }
 
 // The nine fields.
@@ -254,83 +244,61 @@ fn step(
     round(table, words, path, positions, todo, x, s, attacker)
 }
 
-// A search that goes on, until it stops.
-fn run(
-    table: &[u8; 512],
+// A search that goes on, until it stops. Path and positions are lent, so that it can be taken up again. While it runs the path is an array of its own, which the
+// compiled code knows apart from the words of the pool.
+pub fn run(
     words: &mut [u32],
     path: &mut [u32; PLIES],
     positions: &mut [u16; POSITIONS],
-    todo: &mut [u32; PLIES],
     x: Running,
     s: Settings,
     attacker: usize,
 ) -> Running
-    requires room { ⌜ length (now todo) ≡ plies ⌝ }
-    requires { ⌜ (now table ≡ lineTable) × Steppable (now words) (now path) (now positions) x s attacker ⌝ }
-    ensures room { λ _. ⌜ length (now (todo .exit)) ≡ plies ⌝ }
+    requires { ⌜ Steppable (now words) (now path) (now positions) x s attacker ⌝ }
     ensures { λ r. ⌜ Ran (now (words .entry)) (now (path .entry)) (now (positions .entry)) x s attacker (now (words .exit)) (now (path .exit)) (now (positions .exit)) r ⌝ }
-{
-    let mut y = x;
-    while !y.stop {
-        y = step(table, words, path, positions, todo, y, s, attacker);
-    }
-    y
-}
-
-// A search goes on from where it stands, until it stops.
-pub fn go_on(words: &mut [u32], k: Kept, s: Settings) -> Kept
-    requires { ⌜ Runnable (now words) k s ⌝ }
-    ensures { λ r. ⌜ WentOn (now (words .entry)) k s (now (words .exit)) r ⌝ }
 {
     let table = game::line_table();
     let mut todo: [u32; PLIES] = [0; PLIES];
-    let mut path = k.path;
-    let mut positions = k.positions;
-    let x = k.running;
-    let attacker = k.attacker;
-    let running = run(
-        &table,
-        words,
-        &mut path,
-        &mut positions,
-        &mut todo,
-        x,
-        s,
-        attacker,
-    );
-    Kept {
-        running,
-        path,
-        positions,
-        attacker,
+    let mut line = *path;
+    let mut y = x;
+    while !y.stop {
+        y = step(
+            &table,
+            words,
+            &mut line,
+            positions,
+            &mut todo,
+            y,
+            s,
+            attacker,
+        );
     }
+    *path = line;
+    y
 }
 
 // The search of an accepted position from its root on, until it stops, in a pool of any words.
-pub fn start(words: &mut [u32], g: Game, s: Settings) -> Kept
-    requires { ⌜ Searchable (g .words) (now words) s ⌝ }
-    ensures { λ r. ⌜ ((p : Position) → Holds p (g .words) 0 → Accepted p → Stopped p s (now (words .exit)) r) ⌝ }
-    ensures pool { λ r. ⌜ Beyond (now (words .entry)) (now (words .exit)) ⌝ }
+pub fn start(
+    words: &mut [u32],
+    path: &mut [u32; PLIES],
+    positions: &mut [u16; POSITIONS],
+    g: Game,
+    s: Settings,
+) -> Running
+    requires { ⌜ (length (now path) ≡ 82) × (length (now positions) ≡ 1968) × Searchable (g .words) (now words) s ⌝ }
+    ensures { λ r. ⌜ Started (g .words) s (now (words .entry)) (now (words .exit)) (now (path .exit)) (now (positions .exit)) r ⌝ }
 {
     let table = game::line_table();
-    let mut path: [u32; PLIES] = [0; PLIES];
-    let mut positions: [u16; POSITIONS] = [0; POSITIONS];
     let root_words = g.words;
     let attacker = game::side_to_move(&root_words, 0);
-    let first = begin(&table, words, &mut path, &mut positions, g, s.rule);
-    let running = Running {
+    let first = begin(&table, words, path, positions, g, s.rule);
+    let x = Running {
         prover: first,
         tick: s.interval,
         stop: false,
         cause: 0,
     };
-    let k = Kept {
-        running,
-        path,
-        positions,
-        attacker,
-    };
-    go_on(words, k, s)
+    run(words, path, positions, x, s, attacker)
 }
 
 // The search of an accepted position in a pool of any words.
@@ -338,8 +306,8 @@ pub fn search(words: &mut [u32], g: Game, s: Settings) -> SearchResult
     requires { ⌜ Searchable (g .words) (now words) s ⌝ }
     ensures { λ r. ⌜ ((p : Position) → Holds p (g .words) 0 → Accepted p → Searched p s (now (words .entry)) (now (words .exit)) r) ⌝ }
 {
-    let last = start(words, g, s);
-    let path = last.path;
-    let x = last.running;
-    finish(words, &path, s, x)
+    let mut path: [u32; PLIES] = [0; PLIES];
+    let mut positions: [u16; POSITIONS] = [0; POSITIONS];
+    let last = start(words, &mut path, &mut positions, g, s);
+    finish(words, &path, s, last)
 }

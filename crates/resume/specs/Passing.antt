@@ -1,8 +1,8 @@
--- The second pass of a game, as the code goes through it: the grant's result, and what is unspent after it. Rests on pn's Keeping, Lone and the passes' definitions.
-use mathlib.Core.Path.{_≡_, refl, ap, sym, _∙_, subst}
+-- The second pass of a game, as the code goes through it: the grant's result, and what is unspent after it. Rests on Keeping, Lone and the passes' definitions.
+use mathlib.Core.Path.{_≡_, ap, sym, _∙_}
 use mathlib.Core.Bool.{Bool, true, false, cond}
 use mathlib.Core.List.{List}
-use Prim.Native.Nat.{ℕ, _+_, _-_, _≤_, _<_}
+use Prim.Native.Nat.{ℕ, _+_, _-_, _≤_}
 use native.Mathlib.Omega.{arith}
 use borrow.Author.Tests.{eq-eqb, ne-eqb}
 use lib.Dec.{eqb}
@@ -13,21 +13,17 @@ use Rattle.plain.specs.Plain.{searchOf}
 use Rattle.words.specs.Words.{capacity}
 use Rattle.passes.specs.Passes.{OneGame, first, grantWith, unspentAfter}
 use Rattle.pn.specs.Results.{machineSettings, resultOf}
-use Rattle.pn.specs.Going.{Going, Ranges, withBudget, again, goes-again, cause-spent, spent-cause, settings-long}
-use Rattle.pn.specs.Keeping.{Runnable, Stopped, WentOn}
+use Rattle.pn.specs.Going.{Ranges, withBudget, cause-spent, spent-cause, settings-long}
 use Rattle.pn.specs.declared.Settings.{Settings}
-use Rattle.pn.specs.declared.Kept.{Kept}
 use Rattle.pn.specs.declared.SearchResult.{SearchResult}
 use Rattle.resume.specs.Lone.{lone, lone-spent}
+use Rattle.resume.specs.Keeping.{Stopped, Resumable}
+use Rattle.resume.specs.declared.Kept.{Kept}
 use Rattle.resume.specs.declared.Turn.{Turn}
 
 -- the game of p in a pool of these words; its share is the budget
 abbrev pub gameIn : List ℕ → Settings → Position → OneGame
 gameIn w s p = lone (s .rule) (capacity w) (s .limit) (s .interval) (s .budget) p
-
--- the same search, no longer stopped
-abbrev pub keptAgain : Kept → Kept
-keptAgain k = record { running = again (k .running); path = k .path; positions = k .positions; attacker = k .attacker }
 
 -- what the second pass of a game asks for
 pub record Passable (w : List ℕ) (k : Kept) (s : Settings) (unspent : ℕ) : Type 0 where
@@ -40,6 +36,14 @@ pub record Passable (w : List ℕ) (k : Kept) (s : Settings) (unspent : ℕ) : T
 pub record Passes (p : Position) (s : Settings) (w : List ℕ) (unspent : ℕ) (r : Turn) : Type 0 where
   pub result-is : resultOf (r .result) ≡ gameIn w s p .search (grantWith (gameIn w s p) unspent)
   pub unspent-is : r .unspent ≡ unspentAfter (gameIn w s p) unspent
+
+-- a result in words of the same length, and what it expanded
+module _ (p : Position) (s : Settings) (w v : List ℕ) (r : SearchResult) (long : length v ≡ length w) (e : resultOf r ≡ searchOf (s .rule) (machineSettings v s) p) where
+  pub result-long : resultOf r ≡ searchOf (s .rule) (machineSettings w s) p
+  result-long = e ∙ ap (λ (T : machine.Settings). searchOf (s .rule) T p) (settings-long w v s long)
+
+  pub result-most : Ranges w s → r .expanded ≤ s .budget
+  result-most f = omega (arith, lone-spent (s .rule) (machineSettings w s) (record { some = f .some; most = f .few }) p .0, ap (λ (x : machine.Result). x .expanded) result-long)
 
 module _ {p : Position} {s : Settings} {w : List ℕ} {k : Kept} (h : Stopped p s w k) (u : ℕ) where
   abbrev g : OneGame
@@ -61,11 +65,11 @@ module _ {p : Position} {s : Settings} {w : List ℕ} {k : Kept} (h : Stopped p 
       record { result-is = same; unspent-is = omega (arith, ap (λ (x : machine.Result). x .expanded) e, ap (λ (x : machine.Result). x .expanded) same) }
 
   module _ (c : k .running .cause ≡ 1) where
-    spent-all : k .running .prover .expanded ≡ s .budget
+    pub spent-all : k .running .prover .expanded ≡ s .budget
     spent-all = h .going .stands .expanded-is ∙ h .going .spent (h .stop) c .0 .all
 
     -- stopped by its budget, it was granted all that was unspent
-    passes-on : (r : SearchResult) → resultOf r ≡ searchOf (s .rule) (machineSettings w (withBudget s (s .budget + u))) p
+    pub passes-on : (r : SearchResult) → resultOf r ≡ searchOf (s .rule) (machineSettings w (withBudget s (s .budget + u))) p
         → Passes p s w u (record { result = r; unspent = s .budget + u - r .expanded })
     passes-on r e =
         let q = granted true (eq-eqb _ 1 (spent-cause p s w (k .path) (k .positions) (k .running) (h .going) (h .stop) c)) in
@@ -73,44 +77,12 @@ module _ {p : Position} {s : Settings} {w : List ℕ} {k : Kept} (h : Stopped p 
         record { result-is = same; unspent-is = omega (arith, first-expanded, spent-all, ap (λ (x : machine.Result). x .expanded) same) }
 
     -- what going on asks for
-    module _ (ranges : Ranges w s) (most : k .running .prover .expanded + u ≤ 1000000000000) where
-      more-ranges : Ranges w (withBudget s (s .budget + u))
-      more-ranges = record { some = ranges .some; few = ranges .few; interval-some = ranges .interval-some; budget-most = omega (arith, spent-all); rule-few = ranges .rule-few }
-
-      to-go-on : (g : Runnable w (keptAgain k) (withBudget s (s .budget + u))) × (g .start ≡ p)
-      to-go-on = (
-        record {
-          start = p;
-          going = goes-again p s w (k .path) (k .positions) (k .running) (h .going) (h .stop) c (s .budget + u) (omega arith);
-          ranges = more-ranges;
-          on = refl;
-          root-is = h .root-is;
-        },
-        refl,
-      )
-
-      pub runnable : Runnable w (keptAgain k) (withBudget s (s .budget + u))
-      runnable = to-go-on .0
-
-      -- what it comes to
-      module _ (v : List ℕ) (l : Kept) (went : WentOn w (keptAgain k) (withBudget s (s .budget + u)) v l) where
-        pub stopped-again : Stopped p (withBudget s (s .budget + u)) v l
-        stopped-again = subst (λ q. Stopped q (withBudget s (s .budget + u)) v l) (to-go-on .1) (went (to-go-on .0) .0)
-
-        module _ (r : SearchResult) (long : length v ≡ length w)
-            (result : (q : Position) (ps : List ℕ) → Going q (withBudget s (s .budget + u)) v (l .path) ps (l .running)
-            → resultOf r ≡ searchOf (s .rule) (machineSettings v (withBudget s (s .budget + u))) q) where
-          granted-result : resultOf r ≡ searchOf (s .rule) (machineSettings w (withBudget s (s .budget + u))) p
-          granted-result =
-              result p (l .positions) (stopped-again .going) ∙ ap (λ (T : machine.Settings). searchOf (s .rule) T p) (settings-long w v (withBudget s (s .budget + u)) long)
-
-          pub within-grant : r .expanded ≤ s .budget + u
-          within-grant =
-              omega (
-                arith,
-                lone-spent (s .rule) (machineSettings w (withBudget s (s .budget + u))) (record { some = ranges .some; most = ranges .few }) p .0,
-                ap (λ (x : machine.Result). x .expanded) granted-result,
-              )
-
-          pub passes-granted : Passes p s w u (record { result = r; unspent = s .budget + u - r .expanded })
-          passes-granted = passes-on r granted-result
+    unfoldable pub to-go-on : Ranges w s → k .running .prover .expanded + u ≤ 1000000000000 → Resumable w k (withBudget s (s .budget + u))
+    to-go-on ranges most = record {
+      start = p;
+      budget = s .budget;
+      stopped = h;
+      spent = c;
+      more = omega arith;
+      ranges = record { some = ranges .some; few = ranges .few; interval-some = ranges .interval-some; budget-most = omega (arith, spent-all); rule-few = ranges .rule-few };
+    }

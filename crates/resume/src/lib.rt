@@ -1,19 +1,29 @@
-// The second pass of a game: a search that its budget stopped is taken up where it stood, in its part of the pool, and goes on with more.
+// A game's search in the two passes: it runs up to its share, is kept as it stands, and goes on from there with more budget.
 
-ghost use mathlib.Core.Path.{_≡_};
 ghost use Rattle.rules.specs.Rules.{Position};
-ghost use Rattle.pn.specs.Keeping.{Stopped};
-ghost use Rattle.resume.specs.Passing.{keptAgain, Passable, Passes};
+ghost use Rattle.rules.specs.Record.{Accepted};
+ghost use Rattle.game.specs.Words.{Holds};
+ghost use Rattle.pn.specs.Searches.{Searchable};
+ghost use Rattle.resume.specs.Keeping.{Stopped, Resumable};
+ghost use Rattle.resume.specs.Passing.{Passable, Passes};
+use game::Game;
 use node_pool::NO_NODE;
 use node_pool::NodeID;
 use node_pool::PLIES;
 use node_pool::Pool;
-use pn::Kept;
 use pn::Running;
 use pn::SearchResult;
 use pn::Settings;
 use positions::POSITIONS;
 use prover::Prover;
+
+// A search that has stopped, and what it goes on with, beside its pool: the line that it follows, with the positions on it, and the root's side to move.
+pub struct Kept {
+    pub running: Running,
+    pub path: [u32; PLIES],
+    pub positions: [u16; POSITIONS],
+    pub attacker: usize,
+}
 
 // What stands where no search is kept.
 pub fn nothing() -> Kept {
@@ -46,35 +56,56 @@ pub fn nothing() -> Kept {
     }
 }
 
+// The first pass of a game, in its part of the pool: a search whose budget is the game's share.
+pub fn first(words: &mut [u32], g: Game, s: Settings) -> Kept
+    requires { ⌜ Searchable (g .words) (now words) s ⌝ }
+    ensures { λ r. ⌜ ((p : Position) → Holds p (g .words) 0 → Accepted p → Stopped p s (now (words .exit)) r) ⌝ }
+{
+    let mut path: [u32; PLIES] = [0; PLIES];
+    let mut positions: [u16; POSITIONS] = [0; POSITIONS];
+    let root_words = g.words;
+    let attacker = game::side_to_move(&root_words, 0);
+    let running = pn::start(words, &mut path, &mut positions, g, s);
+    Kept {
+        running,
+        path,
+        positions,
+        attacker,
+    }
+}
+
+// A search that its budget stopped goes on, with more.
+fn go_on(words: &mut [u32], k: Kept, s: Settings) -> Kept
+    requires { ⌜ Resumable (now words) k s ⌝ }
+    ensures { λ r. ⌜ ((g : Resumable (now (words .entry)) k s) → Stopped (g .start) s (now (words .exit)) r) ⌝ }
+{
+    let mut path = k.path;
+    let mut positions = k.positions;
+    let before = k.running;
+    let attacker = k.attacker;
+    let prover = before.prover;
+    let x = Running {
+        prover,
+        tick: before.tick,
+        stop: false,
+        cause: 0,
+    };
+    let running = pn::run(words, &mut path, &mut positions, x, s, attacker);
+    Kept {
+        running,
+        path,
+        positions,
+        attacker,
+    }
+}
+
 // A game's result, and what is unspent after its turn.
 pub struct Turn {
     pub result: SearchResult,
     pub unspent: u64,
 }
 
-// The same search, no longer stopped; its counter goes on from where it stood.
-fn again(k: Kept) -> Kept
-    ensures { λ r. ⌜ r ≡ keptAgain k ⌝ }
-{
-    let path = k.path;
-    let positions = k.positions;
-    let before = k.running;
-    let prover = before.prover;
-    let running = Running {
-        prover,
-        tick: before.tick,
-        stop: false,
-        cause: 0,
-    };
-    Kept {
-        running,
-        path,
-        positions,
-        attacker: k.attacker,
-    }
-}
-
-// The second pass of a game whose share is the settings' budget: if that stopped it, it goes on with all that is unspent.
+// The second pass of a game, in its part of the pool: if its budget stopped it, it goes on with all that is unspent.
 pub fn second(words: &mut [u32], k: Kept, s: Settings, unspent: u64) -> Turn
     requires { ⌜ Passable (now words) k s unspent ⌝ }
     ensures { λ r. ⌜ ((p : Position) → Stopped p s (now (words .entry)) k → Passes p s (now (words .entry)) unspent r) ⌝ }
@@ -94,8 +125,7 @@ pub fn second(words: &mut [u32], k: Kept, s: Settings, unspent: u64) -> Turn
         budget: grant,
         interval: s.interval,
     };
-    let stopped = again(k);
-    let last = pn::go_on(words, stopped, more);
+    let last = go_on(words, k, more);
     let path = last.path;
     let y = last.running;
     let result = pn::finish(words, &path, more, y);

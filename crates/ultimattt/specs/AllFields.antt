@@ -1,11 +1,11 @@
 -- The fields of a list of results, one after the other. Rests on Exports.
 use mathlib.Core.Path.{_≡_, refl, ap, sym, _∙_, subst}
 use mathlib.Core.List.{List, [], _∷_, map}
-use Prim.Native.Nat.{ℕ, zero, suc, _≤_, _<_}
+use Prim.Native.Nat.{ℕ, suc, _≤_, _<_}
 use native.Mathlib.Decide.{ℕ-discrete}
 use native.Mathlib.Omega.{arith}
 use lib.ListN.{length, getD, set, length-set}
-use lib.Seq.{getD-set-same, getD-set-other}
+use lib.Seq.{getD-set-same, getD-set-other, drop-cons}
 use Rattle.pn.specs.Results.{resultOf}
 use Rattle.pn.specs.declared.SearchResult.{SearchResult}
 use Rattle.ultimattt.specs.Exports.{fields, fieldsOf}
@@ -22,9 +22,7 @@ pub shown-start : (results : List SearchResult) (all : List ResultFields) → le
 shown-start results all a b = record { low = omega arith; results-long = a; all-long = b; done = λ k l. absurd (omega arith) }
 
 alike-at : (results : List SearchResult) (i : ℕ) (d e : SearchResult) → i < length results → getD results i d ≡ getD results i e
-alike-at [] i d e l = absurd (omega arith)
-alike-at (x ∷ xs) zero d e l = refl
-alike-at (x ∷ xs) (suc i) d e l = alike-at xs i d e (omega arith)
+alike-at results i d e l = ap (λ (xs : List SearchResult). getD xs 0 d) (sym (drop-cons results i d l) ∙ drop-cons results i e l)
 
 module _ {results : List SearchResult} {all : List ResultFields} {i : ℕ} (h : Shown results all i) (l : i < 8) where
   pub shown-next : (f : ResultFields) (e : SearchResult) → fields f ≡ fieldsOf (resultOf (getD results i e)) → (j : ℕ) → j ≡ suc i → Shown results (set all i f) j

@@ -8,6 +8,7 @@ use Rattle.rules.specs.Record.{bitAt, positionOf, positionRefusal, refusal}
 use Rattle.rules.specs.Refusals.{firstRefusal}
 use Rattle.machine.specs.Machine.{Result, True, False, Unknown}
 use Rattle.plain.specs.Cases.{record21, E, W, D, fields, computedSearch}
+use Rattle.plain.specs.Oracle.{ending-x}
 use Rattle.passes.specs.Passes.{total, unspentAt}
 use Rattle.games_checks.specs.Checks.{Common, common, numberRefusal, earlier, earliest, lowest, settingsRefusal}
 use Rattle.games.specs.Games.{noResult, refused, gamesCall}
@@ -29,25 +30,25 @@ Judges bytes nodes shares C rs = gamesCall bytes (words nodes) (eight shares) C 
 abbrev Refuses : (bytes : List ℕ) (nodes : ℕ) (shares : List ℕ) → Common → (number index : ℕ) → Type 0
 Refuses bytes nodes shares C number index = gamesCall bytes (words nodes) (eight shares) C ≡ refused number index
 
--- A position that X, to move, wins with seven expansions.
-abbrev Q : List ℕ
-Q = record21 0x7822D2CD2B352CCB12D4CB52C9534A84CCB334AD52
+-- The manual's A, which X, to move, wins with seven expansions.
+abbrev A : List ℕ
+A = ending-x
 
--- Results of E after none and one expansion, of Q after three, five and seven, and of W and D.
+-- Results of E after none and one expansion, of A after three, five and seven, and of W and D.
 abbrev E-0 : Result
 E-0 = fields Unknown 1 1 1 0 0 0 0 1
 
 abbrev E-1 : Result
 E-1 = fields Unknown 1 81 82 0 0 0 1 1
 
-abbrev Q-3 : Result
-Q-3 = fields Unknown 1 4 7 0 0 0 3 1
+abbrev A-3 : Result
+A-3 = fields Unknown 1 4 7 0 0 0 3 1
 
-abbrev Q-5 : Result
-Q-5 = fields Unknown 1 3 10 3 0 3 5 1
+abbrev A-5 : Result
+A-5 = fields Unknown 1 3 10 3 0 3 5 1
 
-abbrev Q-7 : Result
-Q-7 = fields True 0 2147483650 12 11 3 3 7 0
+abbrev A-7 : Result
+A-7 = fields True 0 2147483650 12 11 3 3 7 0
 
 abbrev won : Result
 won = fields True 0 2147483648 2 1 1 0 1 0
@@ -59,21 +60,21 @@ lost = fields False 2147483648 0 1 0 0 0 0 0
 pub record GamesCases : Type 0 where
   -- one game: it has the whole pool and, in two passes, the whole allowance
   pub one : Judges E 82 (1 ∷ []) (unlimited 1) (E-1 ∷ [])
-  pub one-goes-on : Judges Q 12 (3 ∷ []) (unlimited 7) (Q-7 ∷ [])
+  pub one-goes-on : Judges A 12 (3 ∷ []) (unlimited 7) (A-7 ∷ [])
   -- D is solved on sight: with a share of 0 and an allowance of 0
   pub on-sight : Judges (D ++ E) 2 (0 ∷ 0 ∷ []) (unlimited 0) (lost ∷ E-0 ∷ [])
   -- the first game that its budget stopped takes all that is unspent; what it leaves goes to the next, here the same record
-  pub three : Judges (Q ++ W ++ Q) 36 (3 ∷ 1 ∷ 3 ∷ []) (unlimited 9) (Q-5 ∷ won ∷ Q-3 ∷ [])
-  pub twice : Judges (Q ++ Q) 24 (1 ∷ 1 ∷ []) (unlimited 12) (Q-7 ∷ Q-5 ∷ [])
+  pub three : Judges (A ++ W ++ A) 36 (3 ∷ 1 ∷ 3 ∷ []) (unlimited 9) (A-5 ∷ won ∷ A-3 ∷ [])
+  pub twice : Judges (A ++ A) 24 (1 ∷ 1 ∷ []) (unlimited 12) (A-7 ∷ A-5 ∷ [])
   pub left-over : Judges (D ++ W ++ E) 250 (1 ∷ 1 ∷ 0 ∷ []) (unlimited 2) (lost ∷ won ∷ E-1 ∷ [])
   -- eight games, and a pool that eight do not divide
   pub eight-games : Judges (D ++ W ++ D ++ W ++ D ++ W ++ D ++ W) 23 (0 ∷ 1 ∷ 0 ∷ 1 ∷ 0 ∷ 0 ∷ 0 ∷ 0 ∷ []) (unlimited 3)
       (lost ∷ won ∷ lost ∷ won ∷ lost ∷ won ∷ lost ∷ fields Unknown 1 1 1 0 0 0 0 1 ∷ [])
   -- stopped by its part or by its limit in the first pass, a game does not go on
-  pub part-short : Judges (Q ++ W) 8 (5 ∷ 0 ∷ []) (unlimited 9) (fields Unknown 1 1 1 0 0 0 0 2 ∷ won ∷ [])
-  pub over-limit : Judges Q 12 (5 ∷ []) (common 0 5 9 1) (fields Unknown 1 4 6 0 0 0 2 3 ∷ [])
+  pub part-short : Judges (A ++ W) 8 (5 ∷ 0 ∷ []) (unlimited 9) (fields Unknown 1 1 1 0 0 0 0 2 ∷ won ∷ [])
+  pub over-limit : Judges A 12 (5 ∷ []) (common 0 5 9 1) (fields Unknown 1 4 6 0 0 0 2 3 ∷ [])
   -- in the second pass the limit is tested on every interval-th expansion of the game, counted from its start
-  pub counted-on : Judges Q 12 (2 ∷ []) (common 0 5 9 3) (fields Unknown 1 4 7 0 0 0 3 3 ∷ [])
+  pub counted-on : Judges A 12 (2 ∷ []) (common 0 5 9 3) (fields Unknown 1 4 7 0 0 0 3 3 ∷ [])
   -- shares that sum to the allowance, and above it by one
   pub sum-equal : Judges (W ++ D) 4 (1 ∷ 2 ∷ []) (unlimited 3) (won ∷ lost ∷ [])
   pub sum-above : Refuses (W ++ D) 4 (1 ∷ 3 ∷ []) (unlimited 3) 20 0

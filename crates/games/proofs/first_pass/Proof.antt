@@ -15,13 +15,13 @@ abbrev μ-loop : tie.MeasureT-loop
 μ-loop bytes words₀ shares n size c kept₀ unspent₀ i₀ words kept unspent i = n - i
 
 -- From where a game has run back to its record, to the turn of the loop, and what it comes to
-abbrev load : tie.After-start Inv-loop μ-loop → tie.After-load Inv-loop μ-loop
+abbrev load : tie.After-first Inv-loop μ-loop → tie.After-load Inv-loop μ-loop
 load r = r .before .before .before .before
 
-abbrev turn : tie.After-start Inv-loop μ-loop → tie.In-loop Inv-loop μ-loop
+abbrev turn : tie.After-first Inv-loop μ-loop → tie.In-loop Inv-loop μ-loop
 turn r = load r .before .before
 
-abbrev at : tie.After-start Inv-loop μ-loop → tie.At-loop Inv-loop μ-loop
+abbrev at : tie.After-first Inv-loop μ-loop → tie.At-loop Inv-loop μ-loop
 at r = turn r .before
 
 nothing-requires : tie.Need-nothing-requires Inv-loop μ-loop
@@ -66,26 +66,26 @@ mul-t23 c = let turn = c .before .before .before in omega (arith, turn .before .
 element-copy-out-t28 : tie.Need-element-copy-out-t28 Inv-loop μ-loop
 element-copy-out-t28 c = let turn = c .before .before .before in omega (arith, turn .before .loop .inv .from .shaped .few, turn .loop-test .taken)
 
-mul-start : tie.Need-mul-start Inv-loop μ-loop
-mul-start c =
+mul-first : tie.Need-mul-first Inv-loop μ-loop
+mul-first c =
     let turn = c .before .before .before .before in
     let h = turn .before .loop .inv in
     omega (arith, part-fits (h .from .shaped) (turn .before .loop .words) (h .long) _ (turn .loop-test .taken), h .long)
 
-sub-start : tie.Need-sub-start Inv-loop μ-loop
-sub-start c = omega arith
+sub-first : tie.Need-sub-first Inv-loop μ-loop
+sub-first c = omega arith
 
-part-start-start : tie.Need-part-start-start Inv-loop μ-loop
-part-start-start c = omega arith
+part-first-start : tie.Need-part-first-start Inv-loop μ-loop
+part-first-start c = omega arith
 
-part-start-end : tie.Need-part-start-end Inv-loop μ-loop
-part-start-end c =
+part-first-end : tie.Need-part-first-end Inv-loop μ-loop
+part-first-end c =
     let turn = c .before .before .before .before in
     let h = turn .before .loop .inv in
     part-fits (h .from .shaped) (turn .before .loop .words) (h .long) _ (turn .loop-test .taken)
 
-start-requires : tie.Need-start-requires Inv-loop μ-loop
-start-requires c κs =
+first-requires : tie.Need-first-requires Inv-loop μ-loop
+first-requires c κs =
     let loaded = c .before .before .before in
     let turn = loaded .before .before in
     let h = turn .before .loop .inv in
@@ -96,8 +96,10 @@ start-requires c κs =
 sub-unspent : tie.Need-sub-unspent Inv-loop μ-loop
 sub-unspent c =
     let r = c .before .before .before .before .before in
-    unspent-enough (at r .loop .inv) (turn r .loop-test .taken) _ _ (r .start .kept .0)
-    (r .start .ensures .0 _ (record-holds (at r .loop .inv .from) _ _ _ (turn r .loop-test .taken) (load r .load .ensures .0) (load r .load .ensures .1)) (first-accepted (at r .loop .inv) (turn r .loop-test .taken)))
+    let h = at r .loop .inv in
+    let l = turn r .loop-test .taken in
+    let e = load r .load .ensures in
+    unspent-enough h l _ _ (r .first .kept .0) (r .first .ensures _ (record-holds (h .from) _ _ _ l (e .0) (e .1)) (first-accepted h l))
 
 mul-kept : tie.Need-mul-kept Inv-loop μ-loop
 mul-kept c =
@@ -122,8 +124,10 @@ loop-less c =
 loop-again : tie.Need-loop-again Inv-loop μ-loop
 loop-again c =
     let r = c .before .before .before .before .before in
-    first-next (at r .loop .inv) (turn r .loop-test .taken) _ _ (r .start .kept .0)
-    (r .start .ensures .0 _ (record-holds (at r .loop .inv .from) _ _ _ (turn r .loop-test .taken) (load r .load .ensures .0) (load r .load .ensures .1)) (first-accepted (at r .loop .inv) (turn r .loop-test .taken))) _ (omega arith)
+    let h = at r .loop .inv in
+    let l = turn r .loop-test .taken in
+    let e = load r .load .ensures in
+    first-next h l _ _ (r .first .kept .0) (r .first .ensures _ (record-holds (h .from) _ _ _ l (e .0) (e .1)) (first-accepted h l)) _ (omega arith)
 
 same-length : tie.Need-same-length Inv-loop μ-loop
 same-length c = c .before .loop .inv .long
@@ -149,11 +153,11 @@ first-pass-spec =
     add-e
     mul-t23
     element-copy-out-t28
-    mul-start
-    sub-start
-    part-start-start
-    part-start-end
-    start-requires
+    mul-first
+    sub-first
+    part-first-start
+    part-first-end
+    first-requires
     sub-unspent
     mul-kept
     array-set-from-kept

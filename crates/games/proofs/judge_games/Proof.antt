@@ -12,10 +12,10 @@ use Rattle.games.proofs.judge_games.Statement.{statement}
 use Rattle.games.proofs.judge_games.Tie as tie
 
 -- From each check back to the one before it, and to the start
-abbrev call : tie.After-number-of-games → tie.Start
+abbrev call : tie.After-check-number → tie.Start
 call r = r .before .before .before
 
-abbrev number : tie.After-earliest → tie.After-number-of-games
+abbrev number : tie.After-earliest → tie.After-check-number
 number r = r .before .before
 
 abbrev early : tie.After-capacity → tie.After-earliest
@@ -24,8 +24,8 @@ early r = r .before .before .before .before
 abbrev sized : tie.Else3 → tie.After-capacity
 sized r = r .before .before
 
-number-of-games-requires : tie.Need-number-of-games-requires
-number-of-games-requires c κs = search needs
+check-number-requires : tie.Need-check-number-requires
+check-number-requires c κs = search needs
 
 refuse-requires : tie.Need-refuse-requires
 refuse-requires c κs = search needs
@@ -36,12 +36,12 @@ returns c =
     let a = call r .args in
     let z = c .before .if1 .taken in
     keeps-refused (a .bytes .now) (a .shares .now) (commonOf (a .c)) (a .words .now) (c .refuse .result) _ _ (c .refuse .ensures)
-    (call-number (a .bytes .now) _ (a .shares .now) (commonOf (a .c)) _ (r .number-of-games .ensures) z) z
+    (call-number (a .bytes .now) _ (a .shares .now) (commonOf (a .c)) _ (r .check-number .ensures) z) z
 
 earliest-requires : tie.Need-earliest-requires
 earliest-requires c κs =
     let r = c .before in
-    let k = counted (call r .args .bytes .now) (sym (r .number-of-games .ensures) ∙ c .if1 .left) in
+    let k = counted (call r .args .bytes .now) (sym (r .check-number .ensures) ∙ c .if1 .left) in
     (k .few, omega arith)
 
 refuse-requires-2 : tie.Need-refuse-requires-2
@@ -54,16 +54,16 @@ returns-2 c =
     let a = call r .args in
     let z = c .before .if2 .taken in
     keeps-refused (a .bytes .now) (a .shares .now) (commonOf (a .c)) (a .words .now) (c .refuse2 .result) _ _ (c .refuse2 .ensures)
-    (call-record (a .bytes .now) _ (a .shares .now) (commonOf (a .c)) (sym (r .number-of-games .ensures) ∙ e .before .if1 .left) _ _ (e .earliest .ensures) z) z
+    (call-record (a .bytes .now) _ (a .shares .now) (commonOf (a .c)) (sym (r .check-number .ensures) ∙ e .before .if1 .left) _ _ (e .earliest .ensures) z) z
 
 capacity-requires : tie.Need-capacity-requires
 capacity-requires c κs = search needs
 
-settings-requires : tie.Need-settings-requires
-settings-requires c κs =
+check-settings-requires : tie.Need-check-settings-requires
+check-settings-requires c κs =
     let e = early c in
     let r = number e in
-    let k = counted (call r .args .bytes .now) (sym (r .number-of-games .ensures) ∙ e .before .if1 .left) in
+    let k = counted (call r .args .bytes .now) (sym (r .check-number .ensures) ∙ e .before .if1 .left) in
     (k .some, k .few)
 
 refuse-requires-3 : tie.Need-refuse-requires-3
@@ -80,16 +80,16 @@ returns-3 c =
     let a = call r .args in
     let z = c .before .if3 .taken in
     keeps-refused (a .bytes .now) (a .shares .now) (commonOf (a .c)) (a .words .now) (c .refuse3 .result) _ _ (c .refuse3 .ensures)
-    (call-settings (a .bytes .now) _ (a .shares .now) (commonOf (a .c)) (sym (r .number-of-games .ensures) ∙ e .before .if1 .left)
+    (call-settings (a .bytes .now) _ (a .shares .now) (commonOf (a .c)) (sym (r .check-number .ensures) ∙ e .before .if1 .left)
     (sym (e .earliest .ensures .code-is) ∙ t .before .before .before .if2 .left) _
-    (t .settings .ensures ∙ ap (λ k. settingsRefusal k (games (a .bytes .now)) (sharesOf (a .shares .now) (games (a .bytes .now))) (commonOf (a .c))) (t .before .capacity .ensures)) z)
+    (t .check-settings .ensures ∙ ap (λ k. settingsRefusal k (games (a .bytes .now)) (sharesOf (a .shares .now) (games (a .bytes .now))) (commonOf (a .c))) (t .before .capacity .ensures)) z)
     z
 
 div-size : tie.Need-div-size
 div-size c =
     let e = early (sized c) in
     let r = number e in
-    let k = counted (call r .args .bytes .now) (sym (r .number-of-games .ensures) ∙ e .before .if1 .left) in
+    let k = counted (call r .args .bytes .now) (sym (r .check-number .ensures) ∙ e .before .if1 .left) in
     k .some
 
 mul-size : tie.Need-mul-size
@@ -101,9 +101,9 @@ first-pass-requires c κs =
     let e = early (sized t) in
     let r = number e in
     let a = call r .args in
-    let some = sym (r .number-of-games .ensures) ∙ e .before .if1 .left in
+    let some = sym (r .check-number .ensures) ∙ e .before .if1 .left in
     let load = sym (e .earliest .ensures .code-is) ∙ sized t .before .before .if2 .left in
-    let fine = sym (t .before .settings .ensures) ∙ t .if3 .left in
+    let fine = sym (t .before .check-settings .ensures) ∙ t .if3 .left in
     to-play (a .bytes .now) (a .words .now) (a .shares .now) (a .c) some load _ (sized t .capacity .ensures) fine
 
 second-pass-requires : tie.Need-second-pass-requires
@@ -120,9 +120,9 @@ returns-4 c =
     let e = early (sized t) in
     let r = number e in
     let a = call r .args in
-    let some = sym (r .number-of-games .ensures) ∙ e .before .if1 .left in
+    let some = sym (r .check-number .ensures) ∙ e .before .if1 .left in
     let load = sym (e .earliest .ensures .code-is) ∙ sized t .before .before .if2 .left in
-    let fine = sym (t .before .settings .ensures) ∙ t .if3 .left in
+    let fine = sym (t .before .check-settings .ensures) ∙ t .if3 .left in
     let passes = passes-answer (a .bytes .now) (a .words .now) (a .shares .now) (a .c) some load _ (sized t .capacity .ensures) fine _ _ _ _ (first .first-pass .ensures)
     (second .second-pass .ensures) (first .first-pass .kept .1 .0) (second .second-pass .kept .0) in
     keeps (a .bytes .now) (a .shares .now) (commonOf (a .c)) (a .words .now) (second .second-pass .last .0)
@@ -132,14 +132,14 @@ pub judge-games-spec : {M : Type 1} → statement M
 judge-games-spec =
     tie.close
     (tie.spec
-    number-of-games-requires
+    check-number-requires
     refuse-requires
     returns
     earliest-requires
     refuse-requires-2
     returns-2
     capacity-requires
-    settings-requires
+    check-settings-requires
     refuse-requires-3
     same-length
     returns-3

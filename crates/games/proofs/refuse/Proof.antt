@@ -1,7 +1,4 @@
 -- `games::refuse` meets its contract. Assumes nothing.
-use mathlib.Core.Path.{ap}
-use lib.ListN.{replicate}
-use Rattle.games.specs.Games.{GamesOutcome}
 use borrow.Author.Needs.{needs}
 use Rattle.games.proofs.refuse.Statement.{statement}
 use Rattle.games.proofs.refuse.Tie as tie

@@ -42,7 +42,10 @@ loop-less : tie.Need-loop-less Inv-loop μ-loop
 loop-less c = omega (arith, c .before .before .before .loop-test .taken)
 
 loop-again : tie.Need-loop-again Inv-loop μ-loop
-loop-again c = looked-next _ _ _ _ _ _ _ _ _ (omega (arith, c .before .before .before .loop-test .taken)) (c .before .before .before .before .loop .inv) (c .before .load .ensures .0) (c .sooner .ensures _ (omega (arith, c .before .before .before .loop-test .taken)))
+loop-again c =
+    let turn = c .before .before .before in
+    looked-next _ _ _ _ _ _ _ _ _ (omega (arith, turn .loop-test .taken)) (turn .before .loop .inv) (c .before .load .ensures .0)
+    (c .sooner .ensures _ (omega (arith, turn .loop-test .taken)))
 
 returns : tie.Need-returns Inv-loop μ-loop
 returns c = looked-done _ _ _ _ _ (c .loop-test .left) (c .before .loop .inv)

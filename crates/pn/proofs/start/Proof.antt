@@ -1,7 +1,6 @@
--- `pn::start` meets its contract: it begins and goes on. Assumes nothing.
+-- `pn::start` meets its contract: it begins and runs. Assumes nothing.
 use mathlib.Core.Path.{_∙_}
-use Rattle.pn.specs.Searches.{to-loop}
-use Rattle.pn.specs.Keeping.{started}
+use Rattle.pn.specs.Searches.{to-loop, started}
 use borrow.Author.Needs.{needs}
 use Rattle.pn.proofs.start.Statement.{statement}
 use Rattle.pn.proofs.start.Tie as tie
@@ -25,11 +24,11 @@ side-to-move-requires c κs = search needs
 begin-requires : tie.Need-begin-requires
 begin-requires c κs = search needs
 
-go-on-requires : tie.Need-go-on-requires
-go-on-requires c κs =
-    let b = c .before .before .before in
+run-requires : tie.Need-run-requires
+run-requires c κs =
+    let b = c .before .before .before .before .before in
     let s = side b in
-    let given = call s .pre in
+    let given = call s .pre .2 in
     let root = given .startable in
     to-loop (root .pos) (call s .args .s) _ _ _ _ _ _ (root .accepted) (given .ranges) (s .side-to-move .ensures .0 ∙ root .holds .side)
     (b .begin .ensures (root .pos) (root .holds) (root .accepted)) .0
@@ -40,13 +39,10 @@ same-length c = search needs
 returns : tie.Need-returns
 returns c =
     let r = c .before .before in
-    let b = r .before .before .before .before in
-    let s = side b in
-    let given = call s .pre in
-    let root = given .startable in (
-      λ p h a. started p (call s .args .s) _ _ _ _ _ _ _ _ a (given .ranges) (s .side-to-move .ensures .0 ∙ h .side) (b .begin .ensures p h a) (r .go-on .ensures) .0,
-      started (root .pos) (call s .args .s) _ _ _ _ _ _ _ _ (root .accepted) (given .ranges) (s .side-to-move .ensures .0 ∙ root .holds .side)
-          (b .begin .ensures (root .pos) (root .holds) (root .accepted)) (r .go-on .ensures) .1,
+    let b = r .before .before .before .before .before .before in
+    let s = side b in (
+      r .run .ensures .0,
+      λ p h a. started p (call s .args .s) _ _ _ _ _ _ _ _ _ _ a (call s .pre .2 .ranges) (s .side-to-move .ensures .0 ∙ h .side) (b .begin .ensures p h a) (r .run .ensures .1),
     )
 
 pub start-spec : {M : Type 1} → statement M
@@ -57,6 +53,6 @@ start-spec =
     slice-aggregate-side-to-move
     side-to-move-requires
     begin-requires
-    go-on-requires
+    run-requires
     same-length
     returns)

@@ -1,18 +1,16 @@
 -- `resume::second` meets its contract, by whether its budget had stopped the game. Assumes nothing.
-use Rattle.resume.specs.Passing.{passes-kept, runnable, stopped-again, within-grant, passes-granted}
-use mathlib.Core.Path.{sym, subst}
 use Prim.Native.Nat.{_+_}
 use Rattle.pn.specs.Going.{withBudget}
-use Rattle.pn.specs.Keeping.{Runnable, WentOn}
+use Rattle.resume.specs.Passing.{passes-kept, passes-on, to-go-on, result-long, result-most}
 use borrow.Author.Needs.{needs}
 use Rattle.resume.proofs.second.Statement.{statement}
 use Rattle.resume.proofs.second.Tie as tie
 
--- From where the game takes up its search back to the test of its cause, and to the start
-abbrev test : tie.After-again → tie.Else1
-test r = r .before .before
+-- From where the game goes on back to the test of its cause, and to the start
+abbrev test : tie.After-go-on → tie.Else1
+test r = r .before .before .before
 
-abbrev call : tie.After-again → tie.Start
+abbrev call : tie.After-go-on → tie.Start
 call r = test r .before .before .before .before
 
 finish-requires : tie.Need-finish-requires
@@ -29,50 +27,44 @@ returns c p h = passes-kept h _ (c .before .before .before .before .if1 .taken) 
 add-grant : tie.Need-add-grant
 add-grant c = search needs
 
-again-requires : tie.Need-again-requires
-again-requires c κs = search needs
-
 go-on-requires : tie.Need-go-on-requires
 go-on-requires c κs =
-    let r = c .before in
-    let a = call r .args in
-    let g = call r .pre in
-    subst (λ k. Runnable (a .words .now) k (withBudget (a .s) (a .s .budget + a .unspent))) (sym (r .again .ensures))
-    (runnable (g .stopped) (a .unspent) (test r .if1 .left) (g .ranges) (g .most))
+    let t = c .before .before in
+    let g = t .before .before .before .before .pre in
+    to-go-on (g .stopped) _ (t .if1 .left) (g .ranges) (g .most)
 
 finish-requires-2 : tie.Need-finish-requires-2
+unfolding to-go-on
 finish-requires-2 c κs =
-    let o = c .before .before .before .before .before .before in
-    let r = o .before .before in
-    let a = call r .args in
+    let r = c .before .before .before .before .before .before in
     let g = call r .pre in
-    let went = subst (λ k. WentOn (a .words .now) k (withBudget (a .s) (a .s .budget + a .unspent)) (o .go-on .last .0) (o .go-on .result)) (r .again .ensures) (o .go-on .ensures) in
-    let end = stopped-again (g .stopped) (a .unspent) (test r .if1 .left) (g .ranges) (g .most) (o .go-on .last .0) (o .go-on .result) went in
+    let end = r .go-on .ensures (to-go-on (g .stopped) _ (test r .if1 .left) (g .ranges) (g .most)) in
     (end .going .stands .path-long, (g .start, _, end .going), end .stop)
 
-sub-t24 : tie.Need-sub-t24
-sub-t24 c =
+sub-t23 : tie.Need-sub-t23
+unfolding to-go-on
+sub-t23 c =
     let f = c .before in
-    let o = f .before .before .before .before .before .before .before in
-    let r = o .before .before in
+    let r = f .before .before .before .before .before .before .before in
     let a = call r .args in
     let g = call r .pre in
-    let went = subst (λ k. WentOn (a .words .now) k (withBudget (a .s) (a .s .budget + a .unspent)) (o .go-on .last .0) (o .go-on .result)) (r .again .ensures) (o .go-on .ensures) in
-    within-grant (g .stopped) (a .unspent) (test r .if1 .left) (g .ranges) (g .most) (o .go-on .last .0) (o .go-on .result) went (f .finish2 .result) (o .go-on .kept .0) (f .finish2 .ensures)
+    let more = to-go-on (g .stopped) (a .unspent) (test r .if1 .left) (g .ranges) (g .most) in
+    result-most (g .start) (withBudget (a .s) (a .s .budget + a .unspent)) (a .words .now) (r .go-on .last .0) (f .finish2 .result) (r .go-on .kept .0)
+    (f .finish2 .ensures (g .start) _ (r .go-on .ensures more .going)) (more .ranges)
 
 same-length-2 : tie.Need-same-length-2
 same-length-2 c = search needs
 
 returns-2 : tie.Need-returns-2
+unfolding to-go-on
 returns-2 c p h =
     let f = c .before in
-    let o = f .before .before .before .before .before .before .before in
-    let r = o .before .before in
+    let r = f .before .before .before .before .before .before .before in
     let a = call r .args in
     let g = call r .pre in
-    let went = subst (λ k. WentOn (a .words .now) k (withBudget (a .s) (a .s .budget + a .unspent)) (o .go-on .last .0) (o .go-on .result)) (r .again .ensures) (o .go-on .ensures) in
-    passes-granted h (a .unspent) (test r .if1 .left) (g .ranges) (g .most) (o .go-on .last .0) (o .go-on .result) went (f .finish2 .result) (o .go-on .kept .0) (f .finish2 .ensures)
+    passes-on h (a .unspent) (test r .if1 .left) (f .finish2 .result)
+    (result-long p (withBudget (a .s) (a .s .budget + a .unspent)) (a .words .now) (r .go-on .last .0) (f .finish2 .result) (r .go-on .kept .0)
+    (f .finish2 .ensures p _ (r .go-on .ensures (to-go-on h (a .unspent) (test r .if1 .left) (g .ranges) (g .most)) .going)))
 
 pub second-spec : {M : Type 1} → statement M
-second-spec =
-    tie.close (tie.spec finish-requires same-length returns add-grant again-requires go-on-requires finish-requires-2 sub-t24 same-length-2 returns-2)
+second-spec = tie.close (tie.spec finish-requires same-length returns add-grant go-on-requires finish-requires-2 sub-t23 same-length-2 returns-2)

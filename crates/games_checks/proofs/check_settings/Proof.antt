@@ -1,10 +1,10 @@
--- `games_checks::settings` meets its contract, check by check: the places are named from the last check back to the sum. Assumes nothing.
+-- `games_checks::check_settings` meets its contract, check by check: the places are named from the last check back to the sum. Assumes nothing.
 use Rattle.games_checks.specs.Checks.{sharesOf}
 use Rattle.games_checks.specs.Common.{commonOf}
 use Rattle.games_checks.specs.Passing.{settings-refuse}
 use borrow.Author.Needs.{needs}
-use Rattle.games_checks.proofs.settings.Statement.{statement}
-use Rattle.games_checks.proofs.settings.Tie as tie
+use Rattle.games_checks.proofs.check_settings.Statement.{statement}
+use Rattle.games_checks.proofs.check_settings.Tie as tie
 
 summed-requires : tie.Need-summed-requires
 summed-requires c κs = search needs
@@ -66,8 +66,8 @@ returns c =
       sum .refuses8 .ensures,
     ) (settings-refuse (a .nodes) (a .n) (sharesOf (a .shares .now) (a .n)) (commonOf (a .c)) (added .summed .result .above) (added .summed .result .total) (added .summed .ensures))
 
-pub settings-spec : {M : Type 1} → statement M
-settings-spec =
+pub check-settings-spec : {M : Type 1} → statement M
+check-settings-spec =
     tie.close
     (tie.spec
     summed-requires

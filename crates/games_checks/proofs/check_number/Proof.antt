@@ -1,8 +1,9 @@
--- `games_checks::number_of_games` meets its contract, check by check. Assumes nothing.
+-- `games_checks::check_number` meets its contract, check by check. Assumes nothing.
+use mathlib.Core.Path.{refl}
 use Rattle.games_checks.specs.Checks.{numberRefusal}
 use borrow.Author.Needs.{needs}
-use Rattle.games_checks.proofs.number_of_games.Statement.{statement}
-use Rattle.games_checks.proofs.number_of_games.Tie as tie
+use Rattle.games_checks.proofs.check_number.Statement.{statement}
+use Rattle.games_checks.proofs.check_number.Tie as tie
 
 refuses-requires : tie.Need-refuses-requires
 refuses-requires c κs = search needs
@@ -25,10 +26,10 @@ returns c =
     let most = c .before .before in
     let least = most .before in
     let whole = least .before in
-    rw (c .first .ensures, whole .refuses .ensures, least .refuses2 .ensures, most .refuses3 .ensures)
+    rw (c .first .ensures, whole .refuses .ensures, least .refuses2 .ensures, most .refuses3 .ensures) refl
 
-pub number-of-games-spec : {M : Type 1} → statement M
-number-of-games-spec =
+pub check-number-spec : {M : Type 1} → statement M
+check-number-spec =
     tie.close
     (tie.spec
     refuses-requires
