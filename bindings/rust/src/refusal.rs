@@ -143,14 +143,14 @@ impl Refusal {
     /// What is wrong, but for the place of the move or the game.
     fn words(self) -> &'static str {
         match self {
-            Refusal::RecordLength => "a record is not 21 bytes long",
+            Refusal::RecordLength => "the record is not 21 bytes long (games: the records are not 21 bytes each)",
             Refusal::RecordBits => "the record has a cell of code 3, a target of 9 to 14, or a last bit of 1",
             Refusal::CellCounts => "the numbers of X's and O's cells don't go with the side to move",
             Refusal::BoardWonTwice => "a board has a line of X and a line of O",
             Refusal::GameWonWrongly => "both sides have a line of boards, or the side to move has one",
             Refusal::TargetDone => "the target is a board that is won or drawn",
             Refusal::OutputShort => "the output is too short: a record takes 21 bytes, moves take 81",
-            Refusal::PoolEmpty => "the pool has no room for one node a game; a node takes five words",
+            Refusal::PoolEmpty => "the pool has no room for a node, which takes five words (games: for one each)",
             Refusal::PoolTooLarge => "the pool has more than 16,777,216 nodes",
             Refusal::SettingRange => {
                 "the rule is over 2, the interval is not 1 to 1,000,000, or the budget, a share or the allowance is \

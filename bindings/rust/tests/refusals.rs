@@ -10,6 +10,10 @@ use ultimattt::{
 };
 use ultimattt::{Book, Pool, Refusal, Rule, Settings, BUDGET_MOST, INTERVAL_MOST, NODE_WORDS, POOL_MOST};
 
+/// Words for a lone call and for games.
+const NOT_21_BYTES: &str = "the record is not 21 bytes long (games: the records are not 21 bytes each)";
+const NO_NODE: &str = "the pool has no room for a node, which takes five words (games: for one each)";
+
 fn refused<T: std::fmt::Debug>(answer: Result<T, Refusal>, refusal: Refusal, number: u32, words: &str) {
     let found = answer.expect_err("a refusal");
     assert_eq!(found, refusal);
@@ -26,8 +30,8 @@ fn searched(words: usize, settings: Settings) -> Result<String, Refusal> {
 
 #[test]
 fn records() {
-    refused(replay(&E[..20], &[]), Refusal::RecordLength, 1, "a record is not 21 bytes long");
-    refused(replay(&[], &[]), Refusal::RecordLength, 1, "a record is not 21 bytes long");
+    refused(replay(&E[..20], &[]), Refusal::RecordLength, 1, NOT_21_BYTES);
+    refused(replay(&[], &[]), Refusal::RecordLength, 1, NOT_21_BYTES);
     let bits = "the record has a cell of code 3, a target of 9 to 14, or a last bit of 1";
     refused(replay(&x_to_move(FREE_CHOICE, &[(&[0], &[0], 3)]), &[]), Refusal::RecordBits, 2, bits);
     refused(replay(&x_to_move(9, &[]), &[]), Refusal::RecordBits, 2, bits);
@@ -57,10 +61,9 @@ fn outputs() {
 
 #[test]
 fn pools() {
-    let none = "the pool has no room for one node a game; a node takes five words";
-    refused(Pool::new(0), Refusal::PoolEmpty, 8, none);
-    refused(searched(0, Settings::default()), Refusal::PoolEmpty, 8, none);
-    refused(searched(NODE_WORDS - 1, Settings::default()), Refusal::PoolEmpty, 8, none);
+    refused(Pool::new(0), Refusal::PoolEmpty, 8, NO_NODE);
+    refused(searched(0, Settings::default()), Refusal::PoolEmpty, 8, NO_NODE);
+    refused(searched(NODE_WORDS - 1, Settings::default()), Refusal::PoolEmpty, 8, NO_NODE);
     let large = "the pool has more than 16,777,216 nodes";
     refused(Pool::new(POOL_MOST + 1), Refusal::PoolTooLarge, 9, large);
     refused(searched((POOL_MOST + 1) * NODE_WORDS, Settings::default()), Refusal::PoolTooLarge, 9, large);
@@ -130,14 +133,13 @@ fn trainers() {
 fn games() {
     let settings = shared(7, &[4; 8]);
     let judged = |records: &[u8], nodes| judge_games(records, &mut pool(nodes), Rule::DrawFalse, &settings);
-    refused(judged(&[0; 43], 90), Refusal::RecordLength, 1, "a record is not 21 bytes long");
+    refused(judged(&[0; 43], 90), Refusal::RecordLength, 1, NOT_21_BYTES);
     let count = "there is no game to judge, or there are over eight";
     refused(judged(&[], 90), Refusal::GameCount, 20, count);
     refused(judged(&[w(); 9].concat(), 90), Refusal::GameCount, 20, count);
     let shares = "the shares of the games sum above the allowance";
     refused(judged(&[w(); 2].concat(), 90), Refusal::SharesOverAllowance, 20, shares);
-    let part = "the pool has no room for one node a game; a node takes five words";
-    refused(judged(&[w(); 3].concat(), 2), Refusal::PoolEmpty, 8, part);
+    refused(judged(&[w(); 3].concat(), 2), Refusal::PoolEmpty, 8, NO_NODE);
     for record in &refused_records()[1..] {
         let fault = replay(record, &[]).unwrap_err();
         let found = judged(&[&w(), &E, &record[..]].concat(), 90).unwrap_err();

@@ -40,10 +40,12 @@ impl Passes {
         if self.backwards {
             games.reverse();
         }
-        for game in games.into_iter().filter(|game| (self.goes_on)(results[*game].cause)).collect::<Vec<usize>>() {
-            let granted = (self.granted)(shares[game], unspent);
-            results[game] = second(game, granted);
-            unspent = (self.left)(unspent, granted, results[game].expanded);
+        for game in games {
+            if (self.goes_on)(results[game].cause) {
+                let granted = (self.granted)(shares[game], unspent);
+                results[game] = second(game, granted);
+                unspent = (self.left)(unspent, granted, results[game].expanded);
+            }
         }
         results
     }

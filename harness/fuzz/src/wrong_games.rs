@@ -36,8 +36,8 @@ pub const ALL: [(&str, Exports); 45] = [
     ("games grants half of the unspent", Exports { games: half, ..LIBRARY }),
     ("games counts all shares as spent", Exports { games: shares_spent, ..LIBRARY }),
     ("games goes on with the last game first", Exports { games: backwards, ..LIBRARY }),
-    ("games goes on with a game that its part stopped", Exports { games: part_goes_on, ..LIBRARY }),
-    ("games goes on with a game that the limit stopped", Exports { games: limit_goes_on, ..LIBRARY }),
+    ("games adds what a game left at its part's end to the unspent twice", Exports { games: part_twice, ..LIBRARY }),
+    ("games adds what a game left at the limit to the unspent twice", Exports { games: limit_twice, ..LIBRARY }),
     ("games does not look at the limit in the second pass", Exports { games: no_limit, ..LIBRARY }),
     ("games counts the interval from the second pass on", Exports { games: interval_anew, ..LIBRARY }),
     ("games cuts the pool into eight parts always", Exports { games: eighths, ..LIBRARY }),
@@ -58,7 +58,7 @@ pub const ALL: [(&str, Exports); 45] = [
 ];
 
 impl Asked {
-    /// Each refused record's game and check.
+    /// The check of each refused record, and its game.
     unsafe fn refused_records(&self) -> Vec<(u32, u64)> {
         let call = self.call();
         let refusals = call.records.chunks_exact(LENGTH).map(record_refusal);
@@ -97,7 +97,7 @@ fn sum(shares: &[u64]) -> u128 {
     shares.iter().map(|share| u128::from(*share)).sum()
 }
 
-/// A call of games that is refused with this code if that holds, where none is due.
+/// A call of games that is refused with this code where none is due, if the condition holds.
 macro_rules! games_refused {
     ($name:ident, |$lent:ident| $code_if:expr) => {
         games!($name, |$lent| match (games_refusal(&$lent.call()), $code_if) {
@@ -172,8 +172,10 @@ games!(shares_spent, |lent| {
     lent.judge_by(Passes { unspent: |allowance, shares, _| allowance - shares.iter().sum::<u64>(), ..AS_DUE })
 });
 games!(backwards, |lent| lent.judge_by(Passes { backwards: true, ..AS_DUE }));
-games!(part_goes_on, |lent| lent.judge_by(Passes { goes_on: |cause| matches!(cause, 1 | 2), ..AS_DUE }));
-games!(limit_goes_on, |lent| lent.judge_by(Passes { goes_on: |cause| matches!(cause, 1 | 3), ..AS_DUE }));
+// These two run a game again that its part or the limit stopped. It stops there again, so its own result does not show
+// it. But what it left of its share is in the unspent since the first pass, and they add it once more.
+games!(part_twice, |lent| lent.judge_by(Passes { goes_on: |cause| matches!(cause, 1 | 2), ..AS_DUE }));
+games!(limit_twice, |lent| lent.judge_by(Passes { goes_on: |cause| matches!(cause, 1 | 3), ..AS_DUE }));
 games!(no_limit, |lent| {
     let without = |game, budget| lent.lone_in(game, lent.part(), u64::MAX, budget);
     lent.judge_as(AS_DUE, |game, budget| lent.lone(game, budget), without)

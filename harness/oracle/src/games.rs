@@ -1,6 +1,6 @@
 //! Games that are judged together. The original has no such call, so the two passes are written here a second time,
-//! plainly and apart from the proved code, over the original's searches. Nothing goes on where it stopped: a game that
-//! gets more in the second pass is searched again from its start.
+//! plainly and apart from the proved code, over the original's searches. No search is taken up again: a game that goes
+//! on in the second pass is searched anew, from its start.
 
 use crate::answer::search;
 use calls::record::LENGTH;

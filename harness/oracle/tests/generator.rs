@@ -1,5 +1,6 @@
 //! The generator repeats itself, reaches every kind of answer, and what it makes loads and stores.
 
+use calls::games::MOST_GAMES;
 use calls::{table, Answer, Book, Call, Kind};
 use oracle::game::GameState;
 use oracle::generate::{any_list, call, list, Random};
@@ -27,17 +28,21 @@ fn about_as_many_lines_of_each_kind_come() {
     assert!(lines.len() == Kind::ALL.len() && lines.values().all(|n| (2_500..3_500).contains(n)), "{:?}", lines);
 }
 
-/// Refusals by number, results as 0; searches by cause as 30 and up, full verdicts as 40 and up.
+/// Refusal 20 where it is not for the number of games: their shares sum above the allowance.
+const SHARES: u64 = 50;
+
+/// Refusals by number, but for the shares as `SHARES`; results as 0, searches by cause as 30 and up, full verdicts as 40
+/// and up.
 fn outcomes(kind: Kind) -> BTreeSet<u64> {
     let mut random = Random::new(1);
-    let answers = (0..4_000).map(|_| oracle::answer(&call(&mut random, kind), &mut Book::default()));
-    let outcome = |answer| match answer {
-        Answer::Refused { number, .. } => number as u64,
-        Answer::Search(fields) => 30 + fields.cause,
-        Answer::Full(verdict, ..) => 40 + verdict as u64,
+    let outcome = |call: Call| match (oracle::answer(&call, &mut Book::default()), call) {
+        (Answer::Refused { number: 20, .. }, Call::Games(games)) if (1..=MOST_GAMES).contains(&games.count()) => SHARES,
+        (Answer::Refused { number, .. }, _) => number as u64,
+        (Answer::Search(fields), _) => 30 + fields.cause,
+        (Answer::Full(verdict, ..), _) => 40 + verdict as u64,
         _ => 0,
     };
-    answers.map(outcome).collect()
+    (0..4_000).map(|_| outcome(call(&mut random, kind))).collect()
 }
 
 #[test]
@@ -48,7 +53,7 @@ fn every_outcome_is_reached() {
     assert_eq!(outcomes(Kind::Full), (1..=6).chain(8..=10).chain(40..=45).collect());
     assert_eq!(outcomes(Kind::Referee), (0..=6).chain([10, 16]).collect());
     assert_eq!(outcomes(Kind::Sheets), [0, 7].into());
-    assert_eq!(outcomes(Kind::Games), (0..=6).chain([8, 9, 10, 20]).collect());
+    assert_eq!(outcomes(Kind::Games), (0..=6).chain([8, 9, 10, 20, SHARES]).collect());
 }
 
 /// How many openings of a hundred end in each way, at least; moves after the game's end come after won and
