@@ -1,5 +1,5 @@
 -- Up to eight games judged together out of one allowance of expansions: what the call answers and what it leaves in the pool, as functions of what comes in. A refusal leaves
--- every word as it was. Request E6 of document 02. Rests on the call's checks, on the two passes, and on the plain machine of a record.
+-- every word as it was (MANUAL, Games with one allowance). Rests on the call's checks, on the two passes, and on the plain machine of a record.
 use mathlib.Core.Path.{_≡_}
 use mathlib.Core.Bool.{cond}
 use mathlib.Core.List.{List}
@@ -25,7 +25,7 @@ gameAt bytes words shares C i = record {
   search = λ budget. plainSearch (C .rule) (settings (partWords words (games bytes)) (limits (C .limit) budget (C .interval))) (recordAt bytes i);
 }
 
--- What the call answers: 0 or the number of the refusal; the game that it names, or 0; how many games there are; eight results, with nothing past the games.
+-- What the call answers: 0 or the number of the refusal; the game that it names, or 0; how many games there are; eight results, zeros past the games.
 pub record GamesOutcome : Type 0 where
   pub number : ℕ
   pub index : ℕ

@@ -1,5 +1,5 @@
--- What is promised of judging up to eight games, request E6 of document 02: one record with a clause for each sentence, of an answer o and of the pool's words before and
--- after the call. Rests on Games, on search's call and on the third condition.
+-- What is promised of judging up to eight games (MANUAL, Games with one allowance), a clause for each sentence: one record, of an answer o and of the pool's words before
+-- and after the call. Rests on Games, on search's call and on the third condition.
 use mathlib.Core.Path.{_≡_}
 use mathlib.Core.Bool.{cond}
 use mathlib.Core.List.{List, [], _∷_}

@@ -120,7 +120,7 @@ fn second_pass(
     results
 }
 
-// The answer: 0 or the number of the refusal; the game that it names, or 0; how many games there are; their results, with nothing past them.
+// The answer: 0 or the number of the refusal; the game that it names, or 0; how many games there are; their results, and zeros past them.
 pub struct JudgedGames {
     pub code: u8,
     pub index: usize,

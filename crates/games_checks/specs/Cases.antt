@@ -24,7 +24,7 @@ lines = record21 0x7AB500000000000000000000000000000000000000
 abbrev Names : (bytes : List ℕ) (number index : ℕ) → Type 0
 Names bytes number index = (earliest (refusals bytes) ≡ number) × (lowest number (refusals bytes) ≡ index)
 
--- Eight shares; the checks of a pool with so many nodes and n games under rule 1
+-- Eight shares; the checks of a pool with so many nodes and n games, with limit 0
 abbrev shares : List ℕ
 shares = 5 ∷ 6 ∷ 7 ∷ 18446744073709551615 ∷ 0 ∷ 0 ∷ 0 ∷ 1000000000001 ∷ []
 

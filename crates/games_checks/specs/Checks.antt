@@ -1,5 +1,5 @@
--- The checks of a call that judges up to eight games, in their order (MANUAL, Calls; Turned back). Their records come in one slice, 21 bytes a game, with eight shares.
--- Request E6 of document 02. Rests on the record's checks and on the ranges of search's settings.
+-- The checks of a call that judges up to eight games, in their order (MANUAL, Games with one allowance). Their records come in one slice, 21 bytes a game, with eight
+-- shares. Rests on the record's checks and on the ranges of search's settings.
 use mathlib.Core.Bool.{cond, not}
 use mathlib.Core.List.{List, [], _∷_}
 use Prim.Native.Nat.{ℕ, zero, suc, _*_, _/_, _%_, min}

@@ -40,7 +40,7 @@ total-same f g i (suc n) h = omega (arith, h i (omega arith), total-same f g (su
 
 -- ONE GAME
 module _ (g : OneGame) (h : Bounded g) (u : ℕ) where
-  -- it has no less than its share, and no more than what it has expanded and what is unspent, or its share
+  -- it has no less than its share
   pub grant-least : g .share ≤ grantWith g u
   grant-least = go (eqb (first g .cause) 1)
     where
@@ -56,6 +56,7 @@ module _ (g : OneGame) (h : Bounded g) (u : ℕ) where
       go true q = omega (arith, h .most (g .share + u), h .all (g .share) (eqb-true (first g .cause) 1 q))
       go false q = omega arith
 
+  -- it has no more than what it has expanded and what is unspent, or its share
   pub grant-most : (a : ℕ) → first g .expanded + u ≤ a → g .share ≤ a → grantWith g u ≤ a
   grant-most a l m = go (eqb (first g .cause) 1) refl
     where

@@ -1,5 +1,5 @@
--- Two passes of games that share one allowance of expansions. The games are counted from 0; of each only its share is known, and what a lone search of it answers with each
--- budget. Request E6 of document 02. Rests on the machine's results.
+-- Two passes of games that share one allowance of expansions (MANUAL, Games with one allowance). The games are counted from 0; of each only its share is known, and what a
+-- lone search of it answers with each budget. Rests on the machine's results.
 use mathlib.Core.Bool.{cond}
 use mathlib.Core.List.{List, [], _∷_}
 use Prim.Native.Nat.{ℕ, zero, suc, _+_, _-_}

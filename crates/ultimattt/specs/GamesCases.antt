@@ -1,4 +1,4 @@
--- Rounds of games of MANUAL, Positions to try, and ours, computed from the definitions. Rests on Games and on plain's Cases for the records E, W and D.
+-- Calls of games of MANUAL, Positions to try, and ours, computed from the definitions. Rests on Games and on plain's Cases for the records E, W and D.
 use mathlib.Core.Path.{_≡_, refl}
 use mathlib.Core.List.{List, [], _∷_, _++_}
 use Prim.Native.Nat.{ℕ, _-_, _*_}

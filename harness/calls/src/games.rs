@@ -1,4 +1,4 @@
-//! Up to eight games under one allowance (MANUAL, Calls) and their line:
+//! Up to eight games under one allowance (MANUAL, Games with one allowance) and their line:
 //!
 //! ```text
 //! eight RECORDS RULE POOL-NODES LIMIT ALLOWANCE INTERVAL S1,..,S8   nine fields a game, with ` | ` between games

@@ -72,7 +72,7 @@ fn games_with(record: Vec<u8>) -> Games {
     Games { records: records.concat(), rule: 0, pool, limit: u64::MAX, allowance, interval: 1, shares }
 }
 
-/// One of eight places, another for another record.
+/// One of eight places, by the record's bytes.
 fn place(record: &[u8]) -> usize {
     record.iter().map(|byte| usize::from(*byte)).sum::<usize>() % 8
 }
