@@ -15,7 +15,7 @@ abbrev pub Toy : Type 0
 Toy = record { at : ℕ; x : Bool }
 
 -- TABLES: a move is the number of the position that it leads to; a row for each position, and the value of the finished ones for X
-abbrev table : List (List ℕ) → List Bool → Game
+abbrev pub table : List (List ℕ) → List Bool → Game
 table rows values = record {
   Pos = Toy;
   moves = λ p. getD rows (p .at) [];

@@ -11,8 +11,9 @@ use Rattle.machine.specs.Game.{Game}
 use Rattle.machine.specs.Tree.{u32-max, Node, solved, proofOf, disproofOf, Children, none, child, size, leastDelta, sumPhi, append}
 use Rattle.machine.specs.Machine.{Counts, counts, Ancestor, State, state, renumber, unchanged, store, climb}
 use Rattle.machine.specs.Value.{Lawful, value-all}
-use Rattle.machine.specs.Numbers.{ByMoves, AllMoves, NodeOk, inner, won, lost, Good, Solved, yes, no, is-solved, unsolved, tally, some-zero, all-zero}
-use Rattle.machine.specs.Place.{Alike, has-move-swap, good-append, by-moves-at, by-moves-swap, Above, roomAt, innerAt, sizeAbove, Sizes, sizes, sizesOf, room-inner, inner-inner, sizes-up}
+use Rattle.machine.specs.Numbers.{ByMoves, AllMoves, NoMoveTwice, Inner, NodeOk, inner, won, lost, Good, Solved, yes, no, is-solved, unsolved, tally, some-zero, all-zero}
+use Rattle.machine.specs.Place.{Alike, has-move-swap, no-move-twice-swap, good-append, by-moves-at, by-moves-swap, Above}
+use Rattle.machine.specs.Place.{roomAt, innerAt, sizeAbove, Sizes, sizes, sizesOf, room-inner, inner-inner, sizes-up}
 
 -- Where the climb stands: the node is expanded, its children are right, and its own numbers, which those above have counted with, may be out of date
 pub record Climbing (G : Game) (r : G .Pos) (up : List (Ancestor (G .Pos))) (n : Node (G .Pos)) (ks : Children (G .Pos)) : Type 0 where
@@ -20,6 +21,7 @@ pub record Climbing (G : Game) (r : G .Pos) (up : List (Ancestor (G .Pos))) (n :
   pub good : Good G ks
   pub by-moves : ByMoves G (n .pos) ks
   pub all-moves : 0 < leastDelta ks → AllMoves G (n .pos) ks
+  pub no-move-twice : NoMoveTwice ks
   pub some : ℕ
   pub legal : List·Memᴰ some (G .moves (n .pos))
   pub above : Above G r up n
@@ -104,6 +106,20 @@ module _ (G : Game) (c : Counts) (n : Node (G .Pos)) (ks : Children (G .Pos)) wh
   climb-next a up e = rw (e, climb)
 
 module _ (G : Game) (L : Lawful G) (r : G .Pos) where
+  -- The node with the numbers x and y, where its children give them and neither is 0
+  worked-out : (x y : ℕ) (up : List (Ancestor (G .Pos))) (n : Node (G .Pos)) (ks : Children (G .Pos)) → Climbing G r up n ks → x ≡ leastDelta ks → y ≡ min (sumPhi ks) u32-max → 0 < x → 0 < y
+      → Inner G (record { pos = n .pos; phi = x; delta = y; move = n .move; expanded = n .expanded }) ks
+  worked-out x y up n ks h p d a b = record {
+    opened = h .opened;
+    phi-pos = a;
+    delta-pos = b;
+    phi-is = p;
+    delta-is = d;
+    by-moves = h .by-moves;
+    all-moves = h .all-moves (omega (arith, a));
+    no-move-twice = h .no-move-twice;
+  }
+
   -- A node stored anew, with what is kept below it, is as it should be
   stored-ok : (c : Counts) (up : List (Ancestor (G .Pos))) (n : Node (G .Pos)) (ks : Children (G .Pos)) → Climbing G r up n ks
       → NodeOk G (store G c up n ks .node) (store G c up n ks .below) × Good G (store G c up n ks .below)
@@ -114,7 +130,7 @@ module _ (G : Game) (L : Lawful G) (r : G .Pos) where
       go (yes e (inl z)) = let q = some-zero G L (n .pos) ks (h .good) (h .by-moves) z in rw e (won refl z (omega (arith, q .0)) (q .1), tt)
       go (yes e (inr z)) = let q = all-zero G L (n .pos) ks (h .good) (h .by-moves) (omega arith) in
           rw e (lost refl z (q .0) (value-all G L (n .pos) (h .some) (h .legal) (λ m i. q .1 m (h .all-moves (omega (arith, q .0)) m i))), tt)
-      go (no e a b) = rw e (inner (record { opened = h .opened; phi-pos = a; delta-pos = b; phi-is = refl; delta-is = refl; by-moves = h .by-moves; all-moves = h .all-moves a }), h .good)
+      go (no e a b) = rw e (inner (worked-out _ _ up n ks h refl refl a b), h .good)
 
   stored-counts : (N : ℕ) (c : Counts) (up : List (Ancestor (G .Pos))) (n : Node (G .Pos)) (ks : Children (G .Pos)) → Climbing G r up n ks → CountsFit N c (sizes G up n ks)
       → CountsFit N (store G c up n ks .counts) (sizes G up (store G c up n ks .node) (store G c up n ks .below))
@@ -149,7 +165,7 @@ module _ (G : Game) (L : Lawful G) (r : G .Pos) where
       let d : n .delta ≡ min (sumPhi ks) u32-max = eqb-true _ _ (t .1) in
       record {
         tree-ok = record {
-          ok = inner (record { opened = h .opened; phi-pos = h .phi-pos; delta-pos = h .delta-pos; phi-is = p; delta-is = d; by-moves = h .by-moves; all-moves = h .all-moves (omega (arith, h .phi-pos)) });
+          ok = inner (worked-out (n .phi) (n .delta) up n ks h p d (h .phi-pos) (h .delta-pos));
           good = h .good;
           above = h .above;
           unsolved-or-root = unsolved-or-root up;
@@ -179,6 +195,7 @@ module _ (G : Game) (L : Lawful G) (r : G .Pos) where
         good = good-append G (a .before) _ (h .above .0 .before-good) (q .0, q .1, h .above .0 .after-good);
         by-moves = by-moves-swap G (a .after) n (renumber G n ks) none _ (a .node .pos) (a .before) (alike n ks) (m .by-moves);
         all-moves = λ l x i. has-move-swap (a .after) n (renumber G n ks) none _ x (a .before) (alike n ks .move) (m .all-moves x i);
+        no-move-twice = no-move-twice-swap (a .after) n (renumber G n ks) none _ (a .before) (alike n ks .move) (m .no-move-twice);
         some = n .move;
         legal = by-moves-at G (a .node .pos) (a .before) (a .after) n none (m .by-moves) .0;
         above = h .above .1;

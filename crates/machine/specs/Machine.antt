@@ -34,6 +34,14 @@ rootOf (a ∷ up) n = rootOf up (a .node)
 unfoldable pub root : {Pos : Type 0} → State Pos → Node Pos  -- the last of those above, or the current node
 root s = rootOf (s .above) (s .node)
 
+-- The whole tree, as a list of one node, the root
+unfoldable pub treeOf : {Pos : Type 0} → List (Ancestor Pos) → Node Pos → Children Pos → Children Pos
+treeOf [] n ks = child n ks none
+treeOf (a ∷ up) n ks = treeOf up (a .node) (append (a .before) (child n ks (a .after)))
+
+unfoldable pub tree : {Pos : Type 0} → State Pos → Children Pos
+tree s = treeOf (s .above) (s .node) (s .below)
+
 unfoldable pub start : (G : Game) → G .Pos → State (G .Pos)  -- the root evaluated, allocated 1 (255: no move led to it)
 start G p = state (counts 1 0 0 0 0) [] (leaf G p 255) none
 

@@ -23,6 +23,11 @@ ByMoves G p (child n b ks) = List·Memᴰ (n .move) (G .moves p) × (n .pos ≡ 
 abbrev pub AllMoves : (G : Game) → G .Pos → Children (G .Pos) → Type 0
 AllMoves G p ks = (m : ℕ) → List·Memᴰ m (G .moves p) → HasMove m ks
 
+-- No move leads to two of them
+abbrev pub NoMoveTwice : {Pos : Type 0} → Children Pos → Type 0
+NoMoveTwice none = Unit {0}
+NoMoveTwice (child n b ks) = (HasMove (n .move) ks → ⊥) × NoMoveTwice ks
+
 -- An open leaf
 pub record OpenLeaf (G : Game) (n : Node (G .Pos)) (ks : Children (G .Pos)) : Type 0 where
   pub closed : n .expanded ≡ false
@@ -41,6 +46,7 @@ pub record Inner (G : Game) (n : Node (G .Pos)) (ks : Children (G .Pos)) : Type 
   pub delta-is : n .delta ≡ min (sumPhi ks) u32-max
   pub by-moves : ByMoves G (n .pos) ks
   pub all-moves : AllMoves G (n .pos) ks
+  pub no-move-twice : NoMoveTwice ks
 
 -- A node is one of these, or it is solved: nothing is below it, one number is 0, the other INFINITY or more, and its value is known
 pub data NodeOk (G : Game) (n : Node (G .Pos)) (ks : Children (G .Pos)) : Type 0 where

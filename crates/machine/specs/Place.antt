@@ -10,7 +10,7 @@ use Rattle.machine.specs.Game.{Game}
 use Rattle.machine.specs.Tree.{INFINITY, u32-max, Node, solved, Children, none, child, size, leastDelta, sumPhi, append}
 use Rattle.machine.specs.Machine.{Counts, Ancestor, State, Policy, into, children}
 use Rattle.machine.specs.Value.{Lawful, extra}
-use Rattle.machine.specs.Numbers.{HasMove, ByMoves, Inner, NodeOk, Good, unsolved, tally}
+use Rattle.machine.specs.Numbers.{HasMove, ByMoves, NoMoveTwice, Inner, NodeOk, Good, unsolved, tally}
 
 -- Pools have at most this many nodes
 abbrev pub pool-max : ℕ
@@ -57,6 +57,12 @@ module _ {Pos : Type 0} (c : Children Pos) (n n′ : Node Pos) (b b′ : Childre
   has-move-swap m (child x y a) e (inl q) = inl q
   has-move-swap m (child x y a) e (inr q) = inr (has-move-swap m a e q)
 
+pub no-move-twice-swap : {Pos : Type 0} (c : Children Pos) (n n′ : Node Pos) (b b′ a : Children Pos) → n .move ≡ n′ .move
+    → NoMoveTwice (append a (child n b c)) → NoMoveTwice (append a (child n′ b′ c))
+unfolding append
+no-move-twice-swap c n n′ b b′ none e h = (subst (λ (m : ℕ). HasMove m c → ⊥) e (h .0), h .1)
+no-move-twice-swap c n n′ b b′ (child x y a) e h = (λ i. h .0 (has-move-swap c n′ n b′ b (x .move) a (sym e) i), no-move-twice-swap c n n′ b b′ a e (h .1))
+
 module _ (G : Game) where
   pub good-append : (a r : Children (G .Pos)) → Good G a → Good G r → Good G (append a r)
   unfolding append
@@ -84,6 +90,7 @@ module _ (G : Game) where
       delta-is = i .delta-is ∙ ap (λ (x : ℕ). min x u32-max) (sum-swap c n n′ b b′ a (e .phi));
       by-moves = by-moves-swap (N .pos) a (e .alike) (i .by-moves);
       all-moves = λ m h. has-move-swap c n n′ b b′ m a (e .alike .move) (i .all-moves m h);
+      no-move-twice = no-move-twice-swap c n n′ b b′ a (e .alike .move) (i .no-move-twice);
     }
 
 -- A node above, on the way to its child n; and all above n, up to the root, whose position is r

@@ -7,7 +7,7 @@ use native.Mathlib.Omega.{arith}
 use lib.ListN.{length}
 use Rattle.machine.specs.Game.{Game, sequences}
 use Rattle.machine.specs.Tree.{Node, solved, Children, none, child, size, leastDelta, sumPhi, append}
-use Rattle.machine.specs.Machine.{Settings, Counts, counts, Ancestor, State, root, start, Policy, toLeaf, short, round, result, run, ends, search}
+use Rattle.machine.specs.Machine.{Settings, Counts, counts, Ancestor, State, rootOf, root, treeOf, tree, start, Policy, toLeaf, short, round, result, run, ends, search}
 use Rattle.machine.specs.Value.{Lawful}
 use Rattle.machine.specs.Numbers.{Inner, NodeOk, inner, Good, inner-of, open-of, openAt, openLeaves, openAt-inner, open-size, Nums, nwon, nlost, nopen, numbers}
 use Rattle.machine.specs.Place.{pool-max, size-append, good-append, inner-swap, Above, sizeAbove, sizes, Sane}
@@ -15,14 +15,7 @@ use Rattle.machine.specs.Descent.{height, node-height, depth-left}
 use Rattle.machine.specs.Rounds.{StateOk, start-ok, found-leaf, leaf-state, round-ok}
 use Rattle.machine.specs.Runs.{run-solved, run-short, run-over, run-next, Course, at-end, lacking, stopped, onward, course}
 
--- The machine's tree, as a list of one node, the root; and a node of it with its own children
-unfoldable pub treeOf : {Pos : Type 0} → List (Ancestor Pos) → Node Pos → Children Pos → Children Pos
-treeOf [] n ks = child n ks none
-treeOf (a ∷ up) n ks = treeOf up (a .node) (append (a .before) (child n ks (a .after)))
-
-unfoldable pub tree : {Pos : Type 0} → State Pos → Children Pos
-tree s = treeOf (s .above) (s .node) (s .below)
-
+-- A node of a tree, with its own children
 pub data In {Pos : Type 0} (n : Node Pos) (b : Children Pos) : Children Pos → Type 0 where
   here : {ks : Children Pos} → In n b (child n b ks)
   beneath : {m : Node Pos} {c ks : Children Pos} → In n b c → In n b (child m c ks)
@@ -55,8 +48,16 @@ pub record PoolInRange (S : Settings) : Type 0 where
   pub some : 1 ≤ S .pool
   pub most : S .pool ≤ pool-max
 
--- The whole tree is right, and has so many nodes
-tree-good : (G : Game) (r : G .Pos) (up : List (Ancestor (G .Pos))) (n : Node (G .Pos)) (ks : Children (G .Pos)) → NodeOk G n ks → Good G ks → Above G r up n → Good G (treeOf up n ks)
+-- The whole tree is the root with what is below it; it is right, and has so many nodes
+pub tree-root : {Pos : Type 0} (s : State Pos) → (b : Children Pos) × (tree s ≡ child (root s) b none)
+unfolding tree root treeOf rootOf
+tree-root {Pos = Pos} s = go (s .above) (s .node) (s .below)
+  where
+    go : (up : List (Ancestor Pos)) (n : Node Pos) (ks : Children Pos) → (b : Children Pos) × (treeOf up n ks ≡ child (rootOf up n) b none)
+    go [] n ks = (ks, refl)
+    go (a ∷ up) n ks = go up (a .node) (append (a .before) (child n ks (a .after)))
+
+pub tree-good : (G : Game) (r : G .Pos) (up : List (Ancestor (G .Pos))) (n : Node (G .Pos)) (ks : Children (G .Pos)) → NodeOk G n ks → Good G ks → Above G r up n → Good G (treeOf up n ks)
 unfolding treeOf
 tree-good G r [] n ks k g u = (k, g, tt)
 tree-good G r (a ∷ up) n ks k g u =
@@ -64,7 +65,7 @@ tree-good G r (a ∷ up) n ks k g u =
     inner-swap G (a .after) n n none ks (a .node) (a .before) (record { alike = record { pos = refl; move = refl }; phi = refl; delta = refl }) (u .0 .mid) in
     tree-good G r up (a .node) _ (inner m) (good-append G (a .before) _ (u .0 .before-good) (k, g, u .0 .after-good)) (u .1)
 
-tree-size : {Pos : Type 0} (up : List (Ancestor Pos)) (n : Node Pos) (ks : Children Pos) → size (treeOf up n ks) ≡ suc (size ks + sizeAbove up)
+pub tree-size : {Pos : Type 0} (up : List (Ancestor Pos)) (n : Node Pos) (ks : Children Pos) → size (treeOf up n ks) ≡ suc (size ks + sizeAbove up)
 unfolding treeOf size sizeAbove
 tree-size [] n ks = omega arith
 tree-size (a ∷ up) n ks = omega (arith, tree-size up (a .node) (append (a .before) (child n ks (a .after))), size-append (a .before) (child n ks (a .after)))

@@ -1,7 +1,7 @@
 -- Step 4, and the whole round: what holds between rounds holds at the start and is kept. Rests on Descent and Climb.
-use mathlib.Core.Path.{_≡_, refl, ap, _∙_}
+use mathlib.Core.Path.{_≡_, refl, ap, sym, _∙_}
 use mathlib.Core.Logic.{_⊎_, inl, inr}
-use mathlib.Core.List.{List, [], _∷_, map, foldr, List·Memᴰ, List·Memᴰ·head, List·Memᴰ·tail, List·Memᴰ·not-nil}
+use mathlib.Core.List.{List, [], _∷_, map, foldr, List·Memᴰ, List·Memᴰ·head, List·Memᴰ·tail, List·Memᴰ·not-nil, Memᴰ·cast}
 use mathlib.Core.Bool.{Bool, true, false, cond}
 use Prim.Native.Nat.{ℕ, suc, _+_, _-_, _≤_, _<_}
 use native.Mathlib.Omega.{arith}
@@ -11,8 +11,8 @@ use borrow.Author.Tests.{eqb-true, ltb-false}
 use Rattle.machine.specs.Game.{Game, sequences}
 use Rattle.machine.specs.Tree.{Node, leaf, solved, Children, none, child, size, leastDelta}
 use Rattle.machine.specs.Machine.{Settings, Counts, live, Ancestor, State, rootOf, root, start, Policy, toLeaf, short, make, children, opened, expand, round}
-use Rattle.machine.specs.Value.{Lawful, extra, sequences-step}
-use Rattle.machine.specs.Numbers.{HasMove, ByMoves, Good, leaf-of, unsolved, open-of, tally, leaf-good}
+use Rattle.machine.specs.Value.{Distinct, Lawful, extra, sequences-step}
+use Rattle.machine.specs.Numbers.{HasMove, ByMoves, NoMoveTwice, Good, leaf-of, unsolved, open-of, tally, leaf-good}
 use Rattle.machine.specs.Place.{pool-max, above-same, roomAt, innerAt, tallyAbove, sizeAbove, sizes, sizesOf, inner-inner, AtUnsolved, Sane}
 use Rattle.machine.specs.Descent.{Found, leaf-ok}
 use Rattle.machine.specs.Climb.{Climbing, UnsolvedOrRoot, TreeOk, CountsFit, climb-ok}
@@ -23,6 +23,9 @@ pub record Making (G : Game) (p : G .Pos) (ms : List ℕ) (ks : Children (G .Pos
   pub good : Good G ks
   pub by-moves : ByMoves G p ks
   pub all-moves : 0 < leastDelta ks → (m : ℕ) → List·Memᴰ m (G .moves p) → List·Memᴰ m ms ⊎ HasMove m ks
+  pub no-move-twice : NoMoveTwice ks
+  pub to-come : (m : ℕ) → List·Memᴰ m ms → HasMove m ks → ⊥
+  pub distinct : Distinct ms
   pub most : size ks + length ms ≤ length (G .moves p)
   pub least : 0 < length (G .moves p) → 0 < size ks + length ms
   pub room : size ks + tally (roomAt G) ks + foldr _+_ 0 (map (λ m. sequences G (G .play p m)) ms) ≤ extra G p
@@ -39,8 +42,19 @@ inner-leaf n below e = ap (λ (b : Bool). cond (solved n) 0 (cond b (suc below) 
 module _ (G : Game) (L : Lawful G) (p : G .Pos) where
   pub making-start : Making G p (G .moves p) none
   unfolding size tally extra
-  making-start = record
-      { legal = λ m i. i; good = tt; by-moves = tt; all-moves = λ l m i. inl i; most = omega arith; least = λ h. omega arith; room = omega arith; leaves = refl }
+  making-start = record {
+    legal = λ m i. i;
+    good = tt;
+    by-moves = tt;
+    all-moves = λ l m i. inl i;
+    no-move-twice = tt;
+    to-come = λ m i h. h;
+    distinct = L .distinct p;
+    most = omega arith;
+    least = λ h. omega arith;
+    room = omega arith;
+    leaves = refl;
+  }
 
   pub making-more : (m : ℕ) (ms : List ℕ) (ks : Children (G .Pos)) → Making G p (m ∷ ms) ks → Making G p ms (child (leaf G (G .play p m) m) none ks)
   unfolding size tally leastDelta leaf roomAt
@@ -49,6 +63,9 @@ module _ (G : Game) (L : Lawful G) (p : G .Pos) where
     good = (leaf-good G L (G .play p m) m, tt, h .good);
     by-moves = (h .legal m (List·Memᴰ·head refl), refl, h .by-moves);
     all-moves = λ l x i. pass x (h .all-moves (omega (arith, l)) x i);
+    no-move-twice = (h .to-come m (List·Memᴰ·head refl), h .no-move-twice);
+    to-come = λ x i w. other x i w;
+    distinct = h .distinct .1;
     most = omega (arith, h .most);
     least = λ l. omega arith;
     room = omega (arith, h .room, sequences-step G L (G .play p m));
@@ -60,6 +77,10 @@ module _ (G : Game) (L : Lawful G) (p : G .Pos) where
       pass x (inl (List·Memᴰ·tail j)) = inl j
       pass x (inr j) = inr (inr j)
 
+      other : (x : ℕ) → List·Memᴰ x ms → HasMove x (child (leaf G (G .play p m) m) none ks) → ⊥
+      other x i (inl e) = h .distinct .0 (Memᴰ·cast (sym e) i)
+      other x i (inr j) = h .to-come x (List·Memᴰ·tail i) j
+
   -- The early end: none is missing that could matter
   pub making-stop : (ms : List ℕ) (ks : Children (G .Pos)) → leastDelta ks ≡ 0 → Making G p ms ks → Making G p [] ks
   unfolding leastDelta size
@@ -68,6 +89,9 @@ module _ (G : Game) (L : Lawful G) (p : G .Pos) where
     good = h .good;
     by-moves = h .by-moves;
     all-moves = λ l. absurd (omega arith);
+    no-move-twice = h .no-move-twice;
+    to-come = λ m i. absurd (List·Memᴰ·not-nil i);
+    distinct = tt;
     most = omega (arith, h .most);
     least = λ l. some ks z;
     room = omega (arith, h .room);
@@ -112,6 +136,7 @@ module _ (G : Game) (L : Lawful G) (r : G .Pos) (s : State (G .Pos)) (h : AtUnso
         good = k .good;
         by-moves = k .by-moves;
         all-moves = λ l m i. there m (k .all-moves l m i);
+        no-move-twice = k .no-move-twice;
         some = o .some;
         legal = o .legal;
         above = above-same G r (s .above) (s .node) (opened G (s .node)) (record { alike = record { pos = refl; move = refl }; phi = refl; delta = refl }) (h .above);

@@ -6,16 +6,12 @@ use Prim.Native.Nat.{ℕ, zero, suc, _+_, _≤_}
 use native.Mathlib.Omega.{arith}
 use lib.ListN.{length, length-append, length-map}
 use Rattle.machine.specs.Game.{Game, backward, sequences}
-use Rattle.machine.specs.Value.{Lawful, no-moves}
+use Rattle.machine.specs.Value.{Distinct, Lawful, no-moves}
 
 -- A legal move sequence: a list of moves, each legal after those before it
 abbrev pub Legal : (G : Game) → G .Pos → List ℕ → Type 0
 Legal G p [] = Unit {0}
 Legal G p (m ∷ ms) = List·Memᴰ m (G .moves p) × Legal G (G .play p m) ms
-
-abbrev pub Distinct : {A : Type 0} → List A → Type 0
-Distinct [] = Unit {0}
-Distinct (x ∷ xs) = (List·Memᴰ x xs → ⊥) × Distinct xs
 
 pub record Enumerates (G : Game) (p : G .Pos) (l : List (List ℕ)) : Type 0 where
   pub each : (ms : List ℕ) → Legal G p ms → List·Memᴰ ms l
@@ -40,7 +36,7 @@ still-there y (z ∷ l) (List·Memᴰ·tail i) h (List·Memᴰ·head q) = List·
 still-there y (z ∷ l) (List·Memᴰ·tail i) h (List·Memᴰ·tail j) = List·Memᴰ·tail (still-there y l i h j)
 
 -- A list without repeats is no longer than one that has all its elements
-no-longer : {A : Type 0} (s t : List A) → Distinct s → ((x : A) → List·Memᴰ x s → List·Memᴰ x t) → length s ≤ length t
+pub no-longer : {A : Type 0} (s t : List A) → Distinct s → ((x : A) → List·Memᴰ x s → List·Memᴰ x t) → length s ≤ length t
 no-longer [] t d h = omega arith
 no-longer (x ∷ s) t d h =
     let i = h x (List·Memᴰ·head refl) in
@@ -89,11 +85,11 @@ begun-by f (x ∷ ms) l i = go (List·Memᴰ·append-cases (map (λ y. x ∷ y) 
     go (inl j) h = let r = Memᴰ·of-map (λ (y : List ℕ). x ∷ y) (f x) j in record { move = x; rest = r .0; is = r .2; first = List·Memᴰ·head refl; then = r .1 }
     go (inr j) h = let r = h j in record { move = r .move; rest = r .rest; is = r .is; first = List·Memᴰ·tail (r .first); then = r .then }
 
-distinct-map : (m : ℕ) (l : List (List ℕ)) → Distinct l → Distinct (map (λ x. m ∷ x) l)
+pub distinct-map : (m : ℕ) (l : List (List ℕ)) → Distinct l → Distinct (map (λ x. m ∷ x) l)
 distinct-map m [] d = tt
 distinct-map m (x ∷ l) d = (λ i. let r = Memᴰ·of-map (λ (y : List ℕ). m ∷ y) l i in d .0 (Memᴰ·cast (cc (r .2)) (r .1)), distinct-map m l (d .1))
 
-distinct-append : {A : Type 0} (s t : List A) → Distinct s → Distinct t → ((x : A) → List·Memᴰ x s → List·Memᴰ x t → ⊥) → Distinct (s ++ t)
+pub distinct-append : {A : Type 0} (s t : List A) → Distinct s → Distinct t → ((x : A) → List·Memᴰ x s → List·Memᴰ x t → ⊥) → Distinct (s ++ t)
 distinct-append [] t d e h = e
 distinct-append (x ∷ s) t d e h = (λ i. go (List·Memᴰ·append-cases s i), distinct-append s t (d .1) e (λ y i j. h y (List·Memᴰ·tail i) j))
   where
@@ -113,7 +109,7 @@ distinct-begun f (m ∷ ms) d h = distinct-append (map (λ x. m ∷ x) (f m)) (b
         let e : m ≡ b .move = cc (a .2, b .is) in
         d .0 (Memᴰ·cast e (b .first))
 
-module _ (G : Game) (L : Lawful G) (distinct : (p : G .Pos) → Distinct (G .moves p)) where
+module _ (G : Game) (L : Lawful G) where
   each-listed : (k : ℕ) (p : G .Pos) → G .left p ≤ k → (ms : List ℕ) → Legal G p ms → List·Memᴰ ms (listed G k p)
   unfolding listed
   each-listed zero p h [] g = List·Memᴰ·head refl
@@ -135,7 +131,7 @@ module _ (G : Game) (L : Lawful G) (distinct : (p : G .Pos) → Distinct (G .mov
   distinct-listed zero p = (λ i. List·Memᴰ·not-nil i, tt)
   distinct-listed (suc k) p = (
     λ i. let r = begun-by _ (G .moves p) [] i in let y : _≡_ {A = ℕ} 0 1 = cc (r .is) in omega arith,
-    distinct-begun _ (G .moves p) (distinct p) (λ m. distinct-listed k (G .play p m)),
+    distinct-begun _ (G .moves p) (L .distinct p) (λ m. distinct-listed k (G .play p m)),
   )
 
   enumerated : (p : G .Pos) → Enumerates G p (listed G (G .left p) p)

@@ -51,7 +51,7 @@ unfolding rootOf
 above-root G r a [] n u = (u .1, u .0 .mid .phi-pos, u .0 .mid .delta-pos)
 above-root G r a (b ∷ up) n u = above-root G r b up (a .node) (u .1)
 
-root-ok : (G : Game) (L : Lawful G) (r : G .Pos) (s : State (G .Pos)) → TreeOk G r s → RootOk G r s
+pub root-ok : (G : Game) (L : Lawful G) (r : G .Pos) (s : State (G .Pos)) → TreeOk G r s → RootOk G r s
 unfolding root rootOf sizes size sizeAbove
 root-ok G L r s h = go (s .above) refl (h .above)
   where

@@ -9,7 +9,7 @@ use lib.Dec.{eqb}
 use borrow.Author.Tests.{eqb-false, ltb-false}
 use Rattle.machine.specs.Game.{Game}
 use Rattle.machine.specs.Tree.{INFINITY, u32-max, Node, bound, leaf, solved, proofOf, disproofOf, Children, none, child, size, leastDelta, sumPhi, append}
-use Rattle.machine.specs.Machine.{Settings, Counts, live, Ancestor, State, rootOf, root, start, Policy, result, ends, search}
+use Rattle.machine.specs.Machine.{Settings, Counts, live, Ancestor, State, root, treeOf, tree, start, Policy, result, ends, search}
 use Rattle.machine.specs.Machine.{into, down, descend, toLeaf, short, make, children, opened, expand, renumber, unchanged, store, climb, round}
 use Rattle.machine.specs.Value.{Lawful}
 use Rattle.machine.specs.Numbers.{HasMove, ByMoves, NodeOk, open-leaf, inner, won, lost, Good, unsolved, openAt, openLeaves, tally, open-size}
@@ -17,7 +17,7 @@ use Rattle.machine.specs.Numbers.{Nums, nwon, nlost, nopen, bounded, num
 use Rattle.machine.specs.Place.{pool-max, Sizes, sizes, sizes-up, Sane}
 use Rattle.machine.specs.Climb.{Climbing, stored-size, climb-stay, climb-root, climb-next, climb-up}
 use Rattle.machine.specs.Rounds.{StateOk, expand-ok, found-leaf, leaf-state}
-use Rattle.machine.specs.Reached.{treeOf, tree, In, here, beneath, further, Reached, begin, descended, climbed, ends-reached, PoolInRange, reached-ok, reached-node, reached-numbers}
+use Rattle.machine.specs.Reached.{In, here, beneath, further, Reached, begin, descended, climbed, ends-reached, tree-root, PoolInRange, reached-ok, reached-node, reached-numbers}
 
 -- The most that a number or a sum is at a position
 abbrev pub mostAt : (G : Game) → G .Pos → ℕ
@@ -223,11 +223,6 @@ module _ (G : Game) (L : Lawful G) (r : G .Pos) where
   in-capped (child m c ks) (beneath i) h = in-capped c i (h .1)
   in-capped (child m c ks) (further i) h = in-capped ks i (h .2)
 
-root-in : {Pos : Type 0} (up : List (Ancestor Pos)) (n : Node Pos) (ks : Children Pos) → (b : Children Pos) × In (rootOf up n) b (treeOf up n ks)
-unfolding rootOf treeOf
-root-in [] n ks = (ks, here)
-root-in (a ∷ up) n ks = root-in up (a .node) (append (a .before) (child n ks (a .after)))
-
 module _ (G : Game) (L : Lawful G) (P : Policy G) (Q : Sane G P) (S : Settings) (in-range : PoolInRange S) (p : G .Pos) where
   -- Where step 5 begins
   expand-capped : (s : State (G .Pos)) → StateOk G p (S .pool) s → StateCapped G p (toLeaf G P s) → solved (root s) ≡ false → short G P S (toLeaf G P s) ≡ false
@@ -278,7 +273,7 @@ module _ (G : Game) (L : Lawful G) (P : Policy G) (Q : Sane G P) (S : Settings) 
   -- And so of a search's result
   pub result-most : (search G P S p .proof ≤ mostAt G p) × (search G P S p .disproof ≤ mostAt G p)
   unfolding search result root tree proofOf disproofOf
-  result-most = let s = ends G P S p .0 in let i = root-in (s .above) (s .node) (s .below) in go (G .mine (root s .pos)) (reached-most s (ends-reached G P S p) (root s) (i .0) (i .1))
+  result-most = let s = ends G P S p .0 in let t = tree-root s in go (G .mine (root s .pos)) (reached-most s (ends-reached G P S p) (root s) (t .0) (rw (t .1) here))
     where
       go : (t : Bool) {x y : ℕ} → (x ≤ mostAt G p) × (y ≤ mostAt G p) → (cond t x y ≤ mostAt G p) × (cond t y x ≤ mostAt G p)
       go true h = h

@@ -6,10 +6,16 @@ use Prim.Native.Nat.{ℕ, zero, suc, _+_, _≤_, _<_}
 use native.Mathlib.Omega.{arith}
 use Rattle.machine.specs.Game.{Game, backward, valueFrom, value, sequences}
 
--- Asked of every value of Pos: play comes to an end, and the sides take turns
+-- Nothing stands twice in a list
+abbrev pub Distinct : {A : Type 0} → List A → Type 0
+Distinct [] = Unit {0}
+Distinct (x ∷ xs) = (List·Memᴰ x xs → ⊥) × Distinct xs
+
+-- Asked of every value of Pos: play comes to an end, the sides take turns, and no legal move is listed twice
 pub record Lawful (G : Game) : Type 0 where
   pub falls : (p : G .Pos) (m : ℕ) → List·Memᴰ m (G .moves p) → G .left (G .play p m) < G .left p
   pub turns : (p : G .Pos) (m : ℕ) → List·Memᴰ m (G .moves p) → G .mine (G .play p m) ≡ not (G .mine p)
+  pub distinct : (p : G .Pos) → Distinct (G .moves p)
 
 map-same : {A : Type 0} (f g : ℕ → A) (ms : List ℕ) → ((m : ℕ) → List·Memᴰ m ms → f m ≡ g m) → map f ms ≡ map g ms
 map-same f g [] h = refl

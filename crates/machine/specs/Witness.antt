@@ -7,14 +7,23 @@ use native.Mathlib.Omega.{arith}
 use Rattle.machine.specs.Game.{value}
 use Rattle.machine.specs.Compute.{settings}
 use Rattle.machine.specs.Cases.{takes, heaps, nim}
-use Rattle.machine.specs.Value.{Lawful}
-use Rattle.machine.specs.Sequences.{Distinct}
+use Rattle.machine.specs.Value.{Distinct, Lawful}
 use Rattle.machine.specs.Reached.{PoolInRange}
 use Rattle.machine.specs.Standard.{third-standard}
 
+heaps-distinct : (n : ℕ) → Distinct (takes n)
+unfolding takes
+heaps-distinct zero = tt
+heaps-distinct (suc zero) = (List·Memᴰ·not-nil, tt)
+heaps-distinct (suc (suc n)) = (λ i. other i, (List·Memᴰ·not-nil, tt))
+  where
+    other : List·Memᴰ {A = ℕ} 1 (2 ∷ []) → ⊥
+    other (List·Memᴰ·head e) = omega arith
+    other (List·Memᴰ·tail i) = List·Memᴰ·not-nil i
+
 heaps-lawful : (side : Bool) (xWins : Bool → Bool) → Lawful (heaps side xWins)
 unfolding takes
-heaps-lawful side xWins = record { falls = λ p m i. falls (p .at) m i; turns = λ p m i. turns (p .x) side }
+heaps-lawful side xWins = record { falls = λ p m i. falls (p .at) m i; turns = λ p m i. turns (p .x) side; distinct = λ p. heaps-distinct (p .at) }
   where
     falls : (n m : ℕ) → List·Memᴰ m (takes n) → n - m < n
     falls zero m i = absurd (List·Memᴰ·not-nil i)
@@ -29,16 +38,6 @@ heaps-lawful side xWins = record { falls = λ p m i. falls (p .at) m i; turns = 
     turns true false = refl
     turns false true = refl
     turns false false = refl
-
-heaps-distinct : (n : ℕ) → Distinct (takes n)
-unfolding takes
-heaps-distinct zero = tt
-heaps-distinct (suc zero) = (List·Memᴰ·not-nil, tt)
-heaps-distinct (suc (suc n)) = (λ i. other i, (List·Memᴰ·not-nil, tt))
-  where
-    other : List·Memᴰ {A = ℕ} 1 (2 ∷ []) → ⊥
-    other (List·Memᴰ·head e) = omega arith
-    other (List·Memᴰ·tail i) = List·Memᴰ·not-nil i
 
 -- By the third condition, from the machine's answer
 nim-5 : value (heaps true (λ x. not x)) (record { at = 5; x = true }) ≡ true

@@ -16,13 +16,17 @@ use Rattle.rules.specs.Replays.{no-move, good-move, first-good}
 use Rattle.machine.specs.Game.{backward, sequences}
 use Rattle.machine.specs.Tree.{Node, Children, size}
 use Rattle.machine.specs.Machine.{firstWith, children, standard}
-use Rattle.machine.specs.Value.{Lawful}
+use Rattle.machine.specs.Value.{Distinct, Lawful}
 use Rattle.machine.specs.Place.{Sane}
 use Rattle.machine.specs.Standard.{standard-sane}
 use Rattle.machine.specs.Needs.{AsksNoLess, askingForMoves}
 use Rattle.machine.specs.NeedsNoMore.{no-more-than-moves}
-use Rattle.machine.specs.Sequences.{Distinct, Legal, Enumerates, sequences-list, sequences-count}
+use Rattle.machine.specs.Sequences.{Legal, Enumerates, sequences-list, sequences-count}
 use Rattle.plain.specs.Plain.{game, gameOf, policyOf, sequencesOf}
+
+ascending-distinct : (l : List ℕ) → Ascending l → Distinct l
+ascending-distinct [] a = tt
+ascending-distinct (m ∷ l) a = (λ i. let h : m < m = a .0 m i in omega arith, ascending-distinct l (a .1))
 
 same-itself : (s : Player) → same s s ≡ true
 same-itself X = refl
@@ -38,6 +42,7 @@ pub lawful : (rule : ℕ) (root : Player) → Lawful (game rule root)
 lawful rule root = record {
   falls = λ p m i. omega (arith, one-less p m (in-legal p m i));
   turns = λ p m i. ap (same root) (turn-passes p m) ∙ same-other root (p .side);
+  distinct = λ p. ascending-distinct (legalMoves p) (ascending p);
 }
 
 -- The choices of steps 2 and 3: they are sane, the child that step 2 takes, how many nodes step 3 asks for, and that it asks for no more than one a legal move. Other crates use
@@ -58,14 +63,6 @@ module _ (rule : ℕ) (root : Player) where
   pub policy-asks-no-more : AsksNoLess (game rule root) (askingForMoves (game rule root)) (policyOf rule root)
   unfolding policyOf
   policy-asks-no-more = no-more-than-moves (game rule root) (lawful rule root)
-
-ascending-distinct : (l : List ℕ) → Ascending l → Distinct l
-ascending-distinct [] a = tt
-ascending-distinct (m ∷ l) a = (λ i. let h : m < m = a .0 m i in omega arith, ascending-distinct l (a .1))
-
--- No legal move stands twice.
-pub moves-distinct : (p : Position) → Distinct (legalMoves p)
-moves-distinct p = ascending-distinct (legalMoves p) (ascending p)
 
 -- At the root it is the root's side that is to move.
 pub root-mine : (rule : ℕ) (p : Position) → gameOf rule p .mine p ≡ true
@@ -92,10 +89,10 @@ sequences-same rule root p = backward-same (λ q ns. suc (foldr _+_ 0 ns)) rule 
 
 -- N is what it says: a list of just the legal move sequences, none twice, has that length, and there is one.
 pub sequences-length : (rule : ℕ) (root : Player) (p : Position) (l : List (List ℕ)) → Enumerates (game rule root) p l → length l ≡ sequencesOf p
-sequences-length rule root p l e = sequences-count (game rule root) (lawful rule root) moves-distinct p l e ∙ sequences-same rule root p
+sequences-length rule root p l e = sequences-count (game rule root) (lawful rule root) p l e ∙ sequences-same rule root p
 
 pub sequences-listed : (rule : ℕ) (root : Player) (p : Position) → (l : List (List ℕ)) × Enumerates (game rule root) p l
-sequences-listed rule root p = sequences-list (game rule root) (lawful rule root) moves-distinct p
+sequences-listed rule root p = sequences-list (game rule root) (lawful rule root) p
 
 -- The sequences that N counts are the lists of moves that replay makes.
 pub legal-replay : (rule : ℕ) (root : Player) (p : Position) (ms : List ℕ) (i : ℕ) → Legal (game rule root) p ms → (q : Position) × (replay p ms i ≡ Reached q)

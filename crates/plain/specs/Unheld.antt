@@ -8,10 +8,10 @@ use Rattle.rules.specs.Rules.{Position}
 use Rattle.rules.specs.Record.{Accepted}
 use Rattle.machine.specs.Game.{Game}
 use Rattle.machine.specs.Tree.{Node, Children, solved}
-use Rattle.machine.specs.Machine.{Settings, State, Policy, root, toLeaf, short, expand}
+use Rattle.machine.specs.Machine.{Settings, State, Policy, root, tree, toLeaf, short, expand}
 use Rattle.machine.specs.Value.{Lawful}
 use Rattle.machine.specs.Place.{Sane}
-use Rattle.machine.specs.Reached.{In, tree, Reached, PoolInRange}
+use Rattle.machine.specs.Reached.{In, Reached, PoolInRange}
 use Rattle.machine.specs.Unheld.{Unheld, reached-unheld, reached-most, result-most}
 use Rattle.plain.specs.Plain.{gameOf, policyOf, searchOf}
 use Rattle.plain.specs.Laws.{lawful, policy-sane, left-most}

@@ -5,6 +5,7 @@ pub mod SearchAnswers
 pub mod Pools
 pub mod ThirdCondition
 pub mod TwoSearches
+pub mod UnknownAnswers
 pub mod RefereeAgrees
 pub mod StepThree
 pub mod NodesNeeded

@@ -116,6 +116,14 @@ pub const PATCHES: &[Patch] = &[
             cause: if root.bounds.solved() { 0 } else { prover.cause },
             allocated: prover.nodes",
     ),
+    // The result keeps the prover, and with it the tree where the search ended, which src/prove/pn/tree.rs reads.
+    patch("prover told", PN, "pub struct ProofResult {", "pub struct ProofResult {\n    pub prover: Prover,"),
+    patch(
+        "prover kept",
+        PN,
+        "prover.nodes.stats.allocated.get(),",
+        "prover.nodes.stats.allocated.get(),\n            prover,",
+    ),
 ];
 
 /// Slabs of 2^10 nodes: the original sets up 20 megabytes for each search, which would be most of

@@ -10,7 +10,8 @@
 use crate::game::{Game, GameState, Move, MoveError, Player};
 use crate::games;
 use crate::load;
-use crate::prove::pn::{sizeof_node, Config, Prover};
+use crate::prove::pn::tree::Tree;
+use crate::prove::pn::{sizeof_node, Config, ProofResult, Prover};
 use crate::prove::Evaluation;
 use calls::line::Verdict;
 use calls::record::LENGTH;
@@ -164,6 +165,23 @@ pub fn legal_moves(record: &[u8; LENGTH]) -> Vec<u8> {
 }
 
 pub fn search(record: &[u8; LENGTH], rule: u64, pool: u64, limit: u64, budget: u64, interval: u64) -> Fields {
+    fields(&result(record, rule, pool, limit, budget, interval))
+}
+
+/// The same, and the tree where the search ended.
+pub fn search_and_tree(
+    record: &[u8; LENGTH],
+    rule: u64,
+    pool: u64,
+    limit: u64,
+    budget: u64,
+    interval: u64,
+) -> (Fields, Tree) {
+    let result = result(record, rule, pool, limit, budget, interval);
+    (fields(&result), Tree::of(&result.prover))
+}
+
+fn result(record: &[u8; LENGTH], rule: u64, pool: u64, limit: u64, budget: u64, interval: u64) -> ProofResult {
     let config = Config {
         max_memory: (limit as usize).checked_mul(sizeof_node()),
         rule,
@@ -172,7 +190,10 @@ pub fn search(record: &[u8; LENGTH], rule: u64, pool: u64, limit: u64, budget: u
         interval: interval as usize,
         ..Default::default()
     };
-    let result = Prover::prove(&config, &load::game(record));
+    Prover::prove(&config, &load::game(record))
+}
+
+fn fields(result: &ProofResult) -> Fields {
     Fields {
         verdict: match result.result {
             Evaluation::True => Verdict::True,

@@ -19,6 +19,8 @@ pub mod prove {
     }
     pub mod pn {
         include!(concat!(env!("OUT_DIR"), "/pn.rs"));
+        // Ours, placed here to read the original's nodes.
+        pub mod tree;
     }
 }
 
@@ -30,4 +32,5 @@ pub mod load;
 mod simd;
 mod util;
 
-pub use answer::{answer, ending, legal_moves, move_of, opening, replay, search, Ending};
+pub use answer::{answer, ending, legal_moves, move_of, opening, replay, search, search_and_tree, Ending};
+pub use prove::pn::tree::Tree;

@@ -14,7 +14,7 @@ mod settings;
 mod sheets;
 
 pub use damaged::{any_bytes, damage, Damage};
-pub use positions::{reachable, reached};
+pub use positions::{ending, late, reachable, reached};
 pub use random::Random;
 
 use calls::record::{Position, LENGTH};

@@ -1,0 +1,28 @@
+-- What proof and disproof mean in an Unknown result of a search of a record. Definitions only. Rests on Meaning and Leaves, and on the game and the policy of a record (plain).
+use mathlib.Core.Path.{_≡_}
+use mathlib.Core.List.{List, List·Memᴰ}
+use mathlib.Core.Bool.{true, false}
+use Prim.Native.Nat.{ℕ}
+use Rattle.rules.specs.Rules.{Position}
+use Rattle.rules.specs.Record.{positionOf}
+use Rattle.machine.specs.Game.{value}
+use Rattle.machine.specs.Tree.{Children}
+use Rattle.machine.specs.Machine.{Settings, Result, True, False, tree, ends}
+use Rattle.plain.specs.Plain.{gameOf, policyOf, recordValue}
+use Rattle.meaning.specs.Meaning.{Line, Settles, Meaning}
+use Rattle.meaning.specs.Leaves.{after, LeavesNamed}
+
+-- The machine's tree in its last state
+unfoldable pub lastTree : ℕ → Settings → List ℕ → Children Position
+lastTree rule S bytes = let p = positionOf bytes in tree (ends (gameOf rule p) (policyOf rule (p .side)) S p .0)
+
+pub record UnknownMeans (rule : ℕ) (S : Settings) (bytes : List ℕ) (r : Result) : Type 0 where
+  -- Proof is the size of the smallest set of open leaves that, all taken as True and the rest left open, make the root True; disproof likewise with False. None has fewer
+  pub numbers : Meaning (gameOf rule (positionOf bytes)) (lastTree rule S bytes) (r .proof) (r .disproof)
+  -- Each open leaf is named by the legal moves that lead to it from the record's position
+  pub leaves : LeavesNamed (gameOf rule (positionOf bytes)) (lastTree rule S bytes) (positionOf bytes)
+  -- If the positions at such a set's leaves turn out True, have that value, then so has the record's position; likewise False
+  pub turns-out-true : (set : List Line) → Settles (gameOf rule (positionOf bytes)) True (lastTree rule S bytes) set
+      → ((l : Line) → List·Memᴰ l set → value (gameOf rule (positionOf bytes)) (after (gameOf rule (positionOf bytes)) (positionOf bytes) l) ≡ true) → recordValue rule bytes ≡ true
+  pub turns-out-false : (set : List Line) → Settles (gameOf rule (positionOf bytes)) False (lastTree rule S bytes) set
+      → ((l : Line) → List·Memᴰ l set → value (gameOf rule (positionOf bytes)) (after (gameOf rule (positionOf bytes)) (positionOf bytes) l) ≡ false) → recordValue rule bytes ≡ false
