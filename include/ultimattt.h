@@ -185,6 +185,16 @@ enum uttt_cause {
 /* A proof or disproof number from here upward stands for infinity. */
 #define UTTT_INFINITY UINT32_C(2147483648)
 
+/*
+ * What the two numbers of a result mean. If the verdict is UTTT_UNKNOWN, the search has come to positions, after some
+ * moves, that it had not looked into when it ended. proof 3: some three of these undecided positions, all turning out
+ * True, would settle it as True; no two would. disproof 3: some three, all turning out False, would settle it as False; no
+ * two would. True and False are said for the side to move in the record, of these positions too, whoever is to move
+ * there. A position that two orders of moves lead to counts each time. Both numbers are then from 1 to 16,777,215. They
+ * say how many positions would have to turn out so, and nothing of how likely it is that they do. If the verdict is
+ * UTTT_TRUE or UTTT_FALSE, its own number is 0, and the other is at least UTTT_INFINITY and counts nothing.
+ */
+
 struct uttt_replay_answer {
     uint32_t code;
     uint64_t index;
@@ -204,8 +214,8 @@ struct uttt_referee_answer {
 
 struct uttt_result {
     uint32_t verdict;   /* UTTT_TRUE if proof is 0, UTTT_FALSE if disproof is 0, else UTTT_UNKNOWN */
-    uint32_t proof;     /* the root's proof number when the search ended */
-    uint32_t disproof;  /* the root's disproof number */
+    uint32_t proof;     /* how many undecided positions would settle it as True, if all turned out True; see above */
+    uint32_t disproof;  /* likewise False */
     uint64_t allocated; /* nodes made, the root too */
     uint64_t freed;     /* nodes freed; live nodes are allocated minus freed */
     uint64_t proved;    /* expanded nodes that were proved */

@@ -74,12 +74,18 @@ impl fmt::Display for Cause {
 }
 
 /// The result of a search. It is displayed as the program judge prints it: the nine fields, one space between.
+///
+/// What proof and disproof mean in an Unknown: the search has come to positions, after some moves, that it had not looked
+/// into when it ended. Proof 3: some three of these undecided positions, all turning out True, would settle it as True; no
+/// two would. Disproof likewise with False. True and False are said for the side to move in the record, of these positions
+/// too. A position that two orders of moves lead to counts each time. The numbers say nothing of how likely it is.
 #[derive(Clone, Copy, Debug, PartialEq, Eq, Hash)]
 pub struct SearchResult {
     pub verdict: Verdict,
-    /// The root's proof number; from [`crate::INFINITY`] upward it stands for infinity.
+    /// How many undecided positions would settle it as True, if all turned out True; 0 if it is True. From
+    /// [`crate::INFINITY`] upward it stands for infinity: it is False.
     pub proof: u32,
-    /// The root's disproof number.
+    /// Likewise False.
     pub disproof: u32,
     /// Nodes made, the root too.
     pub allocated: u64,

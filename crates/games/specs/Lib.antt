@@ -8,3 +8,4 @@ pub mod FirstPasses
 pub mod SecondPasses
 pub mod Calling
 pub mod Promising
+pub mod UnknownGames

@@ -1,5 +1,5 @@
 -- The cases of MANUAL, Positions to try, that are proved from the definitions, in one lemma, with ours. Rests on Calls and Searches, on plain's Cases
--- for the records E, W and D and for the plain machine's results, on RoomCases, GamesCases, and on the Cases of sheets, book, passes, games_checks and cells.
+-- for the records E, W and D and for the plain machine's results, on RoomCases, GamesCases, and on the Cases of meaning, sheets, book, passes, games_checks and cells.
 use mathlib.Core.Path.{_≡_, refl}
 use mathlib.Core.List.{List, [], _∷_, _++_}
 use Prim.Native.Nat.{ℕ}
@@ -15,6 +15,8 @@ use Rattle.plain.specs.Cases.{record21, E, W, D, fields, starred}
 use Rattle.plain.specs.Oracle.{last-x}
 use Rattle.referee.specs.OpenCells.{openCells}
 use Rattle.calls.specs.Calls.{replayOutcome, refereeOutcome, afterMoves, outputRefusal, replayCall, movesCall, refereeRefusal, refereeCall}
+use Rattle.meaning.specs.Cases.{MeaningCases, meaning-cases}
+use Rattle.meaning.specs.RecordCases.{RecordCases, record-cases}
 use Rattle.passes.specs.Cases.{PassesCases, passes-cases}
 use Rattle.book.specs.Cases.{BookCases, book-cases}
 use Rattle.book.specs.TrainerCases.{TrainerCases, trainer-cases}
@@ -98,6 +100,9 @@ pub record Cases : Type 0 where
   -- a book of verdicts: the cases of crate book
   pub book : BookCases
   pub trainers : TrainerCases
+  -- which sets of open leaves the numbers of an Unknown are the sizes of: of toy trees, and of E after two expansions
+  pub smallest-sets : MeaningCases
+  pub E-smallest-sets : RecordCases
   -- eight games: the two passes, the checks and the call
   pub passes : PassesCases
   pub games-checks : ChecksCases
@@ -149,6 +154,8 @@ cases = record {
   sheets = sheets-cases;
   book = book-cases;
   trainers = trainer-cases;
+  smallest-sets = meaning-cases;
+  E-smallest-sets = record-cases;
   passes = passes-cases;
   games-checks = checks-cases;
   games = games-cases;
