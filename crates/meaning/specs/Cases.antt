@@ -1,16 +1,16 @@
--- Computed cases of Meaning on toy trees, which tell its definitions from others: which sets are the smallest, found by trying all, the smaller ones first. Rests on Meaning, on Sets for a word, and on the machine's toys.
+-- Computed cases of Meaning on toy trees, which tell its definitions from others: which sets are the smallest, found by trying all, the smaller ones first. Rests on Meaning and the machine's toys.
 use mathlib.Core.Path.{_≡_, refl}
 use mathlib.Core.List.{List, [], _∷_, _++_, map}
-use mathlib.Core.Bool.{Bool, true, false, not, cond}
+use mathlib.Core.Bool.{Bool, true, false, not}
 use Prim.Native.Nat.{ℕ, zero, suc, _/_, _%_}
 use lib.ListN.{length}
+use Rattle.rules.specs.Rules.{keep}
 use Rattle.machine.specs.Game.{Game}
 use Rattle.machine.specs.Tree.{Children}
 use Rattle.machine.specs.Machine.{Settings, Result, fields, treeOf, tree, standard, ends, Verdict, True, False, Unknown}
 use Rattle.machine.specs.Compute.{computed, settings}
 use Rattle.machine.specs.Cases.{Toy, table, takes, heaps}
-use Rattle.meaning.specs.Sets.{keep}
-use Rattle.meaning.specs.Meaning.{some, every, Line, linesAt, linesIn, openLines, sameLine, isIn, isTrue, isFalse, fromChildren, verdictAt, verdictsIn, rootVerdict}
+use Rattle.meaning.specs.Meaning.{Line, linesAt, linesIn, openLines, sameLine, isIn, isTrue, isFalse, fromChildren, verdictAt, verdictsIn, rootVerdict}
 
 -- The sets of k of a list, those with its first member first; and of two lists the first that is not empty
 unfoldable pub choose : {A : Type 0} → ℕ → List A → List (List A)
@@ -42,7 +42,7 @@ unfolding last linesAt linesIn openLines
 leaves G S p = openLines (last G S p)
 
 unfoldable pub smallest : (G : Game) → Settings → G .Pos → Verdict → List (List Line)
-unfolding last leaves some every sameLine isIn isTrue isFalse is fromChildren verdictAt verdictsIn rootVerdict choose keep orElse firstSize
+unfolding last leaves sameLine isIn isTrue isFalse is fromChildren verdictAt verdictsIn rootVerdict choose orElse firstSize
 smallest G S p v = firstSize (λ set. is v (rootVerdict G v set (last G S p))) (leaves G S p) (suc (length (leaves G S p))) 0
 
 -- A line written as a number, a digit a move; the empty line is 0

@@ -1,21 +1,16 @@
 -- What proof and disproof of an Unknown mean: sets of open leaves of the machine's tree, and what the root comes to when they are all taken as True, or all as False.
--- Definitions only, in the field's terms: proof set and disproof set. Rests on Machine.
+-- Definitions only, in the field's terms: proof set and disproof set. Rests on Machine, and on the rules' tests of lists.
 use mathlib.Core.Path.{_≡_}
-use mathlib.Core.List.{List, [], _∷_, _++_, map, foldr, List·Memᴰ}
-use mathlib.Core.Bool.{Bool, true, false, _||_, _&&_, cond}
+use mathlib.Core.List.{List, [], _∷_, _++_, map, List·Memᴰ}
+use mathlib.Core.Bool.{Bool, true, false, _&&_, cond}
 use Prim.Native.Nat.{ℕ, _≤_}
 use lib.Dec.{eqb}
 use lib.ListN.{length}
+use Rattle.rules.specs.Rules.{any, all}
 use Rattle.machine.specs.Game.{Game}
 use Rattle.machine.specs.Tree.{Node, solved, proofOf, disproofOf, Children, none, child}
 use Rattle.machine.specs.Machine.{Verdict, True, False, Unknown, verdictOf}
 use Rattle.machine.specs.Value.{Distinct}
-
-unfoldable pub some : {A : Type 0} → (A → Bool) → List A → Bool  -- one of a list passes a test
-some test l = foldr _||_ false (map test l)
-
-unfoldable pub every : {A : Type 0} → (A → Bool) → List A → Bool  -- all do
-every test l = foldr _&&_ true (map test l)
 
 -- THE OPEN LEAVES. Each is named by its line, the moves that lead to it from the root; a position that two lines lead to is two leaves
 abbrev pub Line : Type 0
@@ -42,7 +37,7 @@ sameLine (k ∷ r) [] = false
 sameLine (k ∷ r) (m ∷ l) = eqb k m && sameLine r l
 
 unfoldable pub isIn : List Line → Line → Bool
-isIn set l = some (sameLine l) set
+isIn set l = any (sameLine l) set
 
 -- THREE VALUES, the machine's verdicts: Unknown is open
 unfoldable pub isTrue : Verdict → Bool
@@ -58,8 +53,8 @@ isFalse Unknown = false
 -- A node by its children. Where the root's side moves one True child is enough for True, and all False make it False; where the other side moves one False child is
 -- enough for False, and all True make it True; else it is open
 unfoldable pub fromChildren : (mine : Bool) → List Verdict → Verdict
-fromChildren true vs = cond (some isTrue vs) True (cond (every isFalse vs) False Unknown)
-fromChildren false vs = cond (some isFalse vs) False (cond (every isTrue vs) True Unknown)
+fromChildren true vs = cond (any isTrue vs) True (cond (all isFalse vs) False Unknown)
+fromChildren false vs = cond (any isFalse vs) False (cond (all isTrue vs) True Unknown)
 
 module _ (G : Game) (v : Verdict) where
   -- A node when some leaves are taken as v and the other open ones stay open, where its children's verdicts are known. A solved node has the verdict of its numbers, also

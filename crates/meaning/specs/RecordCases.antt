@@ -2,7 +2,6 @@
 -- Rests on UnknownMeans, on Cases for trying all sets, and on plain's cases; everything is computed.
 use mathlib.Core.Path.{_≡_, refl}
 use mathlib.Core.List.{List, [], _∷_, _++_, map}
-use mathlib.Core.Bool.{Bool, true, false, cond}
 use Prim.Native.Nat.{ℕ, zero, suc, _/_, _%_}
 use lib.ListN.{length}
 use Rattle.rules.specs.Rules.{Position, moveOf}
@@ -12,9 +11,8 @@ use Rattle.machine.specs.Machine.{Settings, treeOf, tree, Verdict, True, False,
 use Rattle.plain.specs.Plain.{gameOf, plainSearch}
 use Rattle.plain.specs.Cases.{E, fields, judgeWith, computedSearch}
 use Rattle.plain.specs.Oracle.{ending-x}
-use Rattle.meaning.specs.Meaning.{some, every, Line, linesAt, linesIn, openLines, sameLine, isIn, isTrue, isFalse, fromChildren, verdictAt, verdictsIn, rootVerdict}
+use Rattle.meaning.specs.Meaning.{Line, linesAt, linesIn, openLines, sameLine, isIn, isTrue, isFalse, fromChildren, verdictAt, verdictsIn, rootVerdict}
 use Rattle.meaning.specs.UnknownMeans.{lastTree}
-use Rattle.meaning.specs.Sets.{keep}
 use Rattle.meaning.specs.Cases.{choose, orElse, firstSize, is}
 
 -- The tree where a search under rule 0 ends, with every definition open
@@ -27,7 +25,7 @@ abbrev pub five : Settings
 five = judgeWith 12 5
 
 unfoldable pub A-sets : Verdict → List (List Line)
-unfolding last linesAt linesIn openLines some every sameLine isIn isTrue isFalse is fromChildren verdictAt verdictsIn rootVerdict keep choose orElse firstSize
+unfolding last linesAt linesIn openLines sameLine isIn isTrue isFalse is fromChildren verdictAt verdictsIn rootVerdict choose orElse firstSize
 A-sets v = go (last five ending-x)
   where
     go : Children Position → List (List Line)
@@ -38,7 +36,7 @@ abbrev pub two : Settings
 two = judgeWith 90 2
 
 unfoldable pub E-with : Verdict → List (List Line) → List Verdict
-unfolding last some every sameLine isIn isTrue isFalse fromChildren verdictAt verdictsIn rootVerdict
+unfolding last sameLine isIn isTrue isFalse fromChildren verdictAt verdictsIn rootVerdict
 E-with v sets = go (last two E)
   where
     go : Children Position → List Verdict

@@ -1,24 +1,20 @@
--- Sets of lines, as tests and as lists: those of a list that pass a test, and the test of being in a list. Rests on Meaning.
+-- Sets of lines, as tests and as lists: what a test keeps of a list, and the test of being in one. Rests on Meaning, and on the rules' laws of tests.
 use mathlib.Core.Path.{_≡_, refl, ap, sym, _∙_}
-use mathlib.Core.List.{List, [], _∷_, _++_, map, List·Memᴰ, List·Memᴰ·head, List·Memᴰ·tail, List·Memᴰ·not-nil}
+use mathlib.Core.List.{List, [], _∷_, _++_, map, List·Memᴰ, List·Memᴰ·head, List·Memᴰ·tail}
 use mathlib.Core.Bool.{Bool, true, false, true≢false, _||_, _&&_, cond, or-true}
 use Prim.Native.Nat.{suc, _+_, _≤_}
 use native.Mathlib.Omega.{arith}
 use lib.Dec.{eqb}
 use lib.ListN.{length}
 use borrow.Author.Tests.{eqb-true, eq-eqb}
+use Rattle.rules.specs.Rules.{keep}
+use Rattle.rules.specs.Tests.{from-keep, to-keep}
 use Rattle.machine.specs.Value.{Distinct}
 use Rattle.machine.specs.Sequences.{no-longer}
-use Rattle.meaning.specs.Meaning.{some, Line, sameLine, isIn}
-
--- Those of a list that pass a test, in its order
-unfoldable pub keep : {A : Type 0} → (A → Bool) → List A → List A
-keep test [] = []
-keep test (x ∷ l) = cond (test x) (x ∷ keep test l) (keep test l)
+use Rattle.meaning.specs.Meaning.{Line, sameLine, isIn}
 
 module _ {A : Type 0} where
   pub keep-append : (test : A → Bool) (l r : List A) → length (keep test (l ++ r)) ≡ length (keep test l) + length (keep test r)
-  unfolding keep
   keep-append test [] r = omega arith
   keep-append test (x ∷ l) r = go (test x) (keep-append test l r)
     where
@@ -28,7 +24,6 @@ module _ {A : Type 0} where
       go false h = h
 
   pub keep-map : (test : A → Bool) (f : A → A) (l : List A) → length (keep test (map f l)) ≡ length (keep (λ x. test (f x)) l)
-  unfolding keep
   keep-map test f [] = refl
   keep-map test f (x ∷ l) = go (test (f x)) (keep-map test f l)
     where
@@ -38,43 +33,19 @@ module _ {A : Type 0} where
       go false h = h
 
   pub keep-same : (s t : A → Bool) (l : List A) → ((x : A) → List·Memᴰ x l → s x ≡ t x) → keep s l ≡ keep t l
-  unfolding keep
   keep-same s t [] h = refl
   keep-same s t (x ∷ l) h = cc (h x (List·Memᴰ·head refl), keep-same s t l (λ y i. h y (List·Memᴰ·tail i)))
 
   pub keep-none : (l : List A) → length (keep (λ x. false) l) ≡ 0
-  unfolding keep
   keep-none [] = refl
   keep-none (x ∷ l) = keep-none l
 
-  -- What is kept is in the list and passes, and the other way round
-  pub kept : (test : A → Bool) (l : List A) (x : A) → List·Memᴰ x (keep test l) → List·Memᴰ x l × (test x ≡ true)
-  unfolding keep
-  kept test [] x i = absurd (List·Memᴰ·not-nil i)
-  kept test (y ∷ l) x i = go (test y) refl i (λ j. kept test l x j)
-    where
-      go : (b : Bool) → test y ≡ b → List·Memᴰ x (cond b (y ∷ keep test l) (keep test l)) → (List·Memᴰ x (keep test l) → List·Memᴰ x l × (test x ≡ true))
-          → List·Memᴰ x (y ∷ l) × (test x ≡ true)
-      go true e (List·Memᴰ·head q) h = (List·Memᴰ·head q, ap test q ∙ e)
-      go true e (List·Memᴰ·tail j) h = (List·Memᴰ·tail (h j .0), h j .1)
-      go false e j h = (List·Memᴰ·tail (h j .0), h j .1)
-
-  pub to-keep : (test : A → Bool) (l : List A) (x : A) → List·Memᴰ x l → test x ≡ true → List·Memᴰ x (keep test l)
-  unfolding keep
-  to-keep test (y ∷ l) x (List·Memᴰ·head q) e = rw (sym (ap test q) ∙ e) (List·Memᴰ·head q)
-  to-keep test (y ∷ l) x (List·Memᴰ·tail i) e = go (test y) (to-keep test l x i e)
-    where
-      go : (b : Bool) → List·Memᴰ x (keep test l) → List·Memᴰ x (cond b (y ∷ keep test l) (keep test l))
-      go true j = List·Memᴰ·tail j
-      go false j = j
-
   pub keep-distinct : (test : A → Bool) (l : List A) → Distinct l → Distinct (keep test l)
-  unfolding keep
   keep-distinct test [] d = tt
   keep-distinct test (x ∷ l) d = go (test x) (keep-distinct test l (d .1))
     where
       go : (b : Bool) → Distinct (keep test l) → Distinct (cond b (x ∷ keep test l) (keep test l))
-      go true h = (λ i. d .0 (kept test l x i .0), h)
+      go true h = (λ i. d .0 (from-keep test l x i .0), h)
       go false h = h
 
 -- The test of being in a list
@@ -95,7 +66,7 @@ same-itself [] = refl
 same-itself (m ∷ l) = rw (eq-eqb m m refl, same-itself l)
 
 pub in-list : (set : List Line) (l : Line) → isIn set l ≡ true → List·Memᴰ l set
-unfolding isIn some
+unfolding isIn
 in-list [] l e = absurd (true≢false (sym e))
 in-list (k ∷ set) l e = go (sameLine l k) refl e (λ q. in-list set l q)
   where
@@ -104,7 +75,7 @@ in-list (k ∷ set) l e = go (sameLine l k) refl e (λ q. in-list set l q)
     go false q h f = List·Memᴰ·tail (f h)
 
 pub list-in : (set : List Line) (l : Line) → List·Memᴰ l set → isIn set l ≡ true
-unfolding isIn some
+unfolding isIn
 list-in (k ∷ set) l (List·Memᴰ·head e) = rw (ap (sameLine l) (sym e) ∙ same-itself l)
 list-in (k ∷ set) l (List·Memᴰ·tail i) = ap (λ (b : Bool). sameLine l k || b) (list-in set l i) ∙ or-true (sameLine l k)
 
@@ -114,9 +85,9 @@ as-test test lines l i = go (test l) (isIn (keep test lines) l) refl refl
   where
     go : (b c : Bool) → test l ≡ b → isIn (keep test lines) l ≡ c → isIn (keep test lines) l ≡ test l
     go true c e d = list-in (keep test lines) l (to-keep test lines l i e) ∙ sym e
-    go false true e d = absurd (true≢false (sym (kept test lines l (in-list (keep test lines) l d) .1) ∙ e))
+    go false true e d = absurd (true≢false (sym (from-keep test lines l (in-list (keep test lines) l d) .1) ∙ e))
     go false false e d = d ∙ sym e
 
 -- A set has no fewer members than lines of the list are in it
 pub no-fewer-than : (set lines : List Line) → Distinct lines → length (keep (isIn set) lines) ≤ length set
-no-fewer-than set lines d = no-longer (keep (isIn set) lines) set (keep-distinct (isIn set) lines d) (λ l i. in-list set l (kept (isIn set) lines l i .1))
+no-fewer-than set lines d = no-longer (keep (isIn set) lines) set (keep-distinct (isIn set) lines d) (λ l i. in-list set l (from-keep (isIn set) lines l i .1))

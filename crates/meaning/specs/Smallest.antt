@@ -9,6 +9,8 @@ use native.Mathlib.Omega.{arith}
 use lib.Dec.{eqb, leb}
 use lib.ListN.{length}
 use borrow.Author.Tests.{leb-true, leb-false, eq-eqb, ne-eqb}
+use Rattle.rules.specs.Rules.{any, all, keep}
+use Rattle.rules.specs.Tests.{both-true, one-true, from-keep}
 use Rattle.machine.specs.Game.{Game}
 use Rattle.machine.specs.Tree.{INFINITY, u32-max, Node, solved, Children, none, child, size, leastDelta, sumPhi}
 use Rattle.machine.specs.Machine.{Verdict}
@@ -16,10 +18,10 @@ use Rattle.machine.specs.Value.{Distinct, Lawful}
 use Rattle.machine.specs.Numbers.{HasMove, ByMoves, NoMoveTwice, Inner, NodeOk, open-leaf, inner, won, lost, Good, unsolved, open-of}
 use Rattle.machine.specs.Numbers.{tally, openAt, openLeaves, open-size, Nums, nwon, nlost, nopen, numbers, bounded}
 use Rattle.machine.specs.Place.{pool-max}
-use Rattle.meaning.specs.Meaning.{some, every, Line, linesAt, linesIn, openLines, isIn, fromChildren, verdictAt, verdictsIn, rootVerdict, Smallest}
-use Rattle.meaning.specs.Sets.{keep, keep-append, keep-map, keep-same, keep-none, kept, keep-distinct, as-test, no-fewer-than}
+use Rattle.meaning.specs.Meaning.{Line, linesAt, linesIn, openLines, isIn, fromChildren, verdictAt, verdictsIn, rootVerdict, Smallest}
+use Rattle.meaning.specs.Sets.{keep-append, keep-map, keep-same, keep-none, keep-distinct, as-test, no-fewer-than}
 use Rattle.meaning.specs.Lines.{lines-inner, lines-leaf, zero-solved, begins, distinct-at, distinct-in}
-use Rattle.meaning.specs.Verdicts.{said, isSaid, said-is, is-said, some-cases, every-cases, one-enough, one-needed, all-enough, all-needed, same-or-not}
+use Rattle.meaning.specs.Verdicts.{said, isSaid, said-is, is-said, one-enough, one-needed, all-enough, all-needed, same-or-not}
 use Rattle.meaning.specs.Verdicts.{towards, towards-own, towards-other, phi-or-delta}
 use Rattle.meaning.specs.Verdicts.{verdict-zero, zero-verdict, verdict-solved, verdict-inner, verdict-leaf, leaf-taken, same-at, same-in}
 
@@ -104,13 +106,12 @@ module _ (G : Game) (t : Bool) where
   Sided mine (child n b ks) = (G .mine (n .pos) ≡ mine) × Sided mine ks
 
   record ListLeast (ks : Children (G .Pos)) : Type 0 where
-    some-lower : Sided (not t) ks → (test : Test) → some (isSaid t) (verdicts test ks) ≡ true → leastDelta ks ≤ countIn test ks
-    some-reached : Sided (not t) ks → leastDelta ks < INFINITY → Got some ks (leastDelta ks)
-    all-lower : Sided t ks → (test : Test) → every (isSaid t) (verdicts test ks) ≡ true → sumPhi ks ≤ countIn test ks
-    all-reached : Sided t ks → sumPhi ks < INFINITY → Got every ks (sumPhi ks)
+    some-lower : Sided (not t) ks → (test : Test) → any (isSaid t) (verdicts test ks) ≡ true → leastDelta ks ≤ countIn test ks
+    some-reached : Sided (not t) ks → leastDelta ks < INFINITY → Got any ks (leastDelta ks)
+    all-lower : Sided t ks → (test : Test) → all (isSaid t) (verdicts test ks) ≡ true → sumPhi ks ≤ countIn test ks
+    all-reached : Sided t ks → sumPhi ks < INFINITY → Got all ks (sumPhi ks)
 
   solved-least : (n : Node (G .Pos)) (b : Children (G .Pos)) → solved n ≡ true → ((n .phi ≡ 0) × (INFINITY ≤ n .delta)) ⊎ ((n .delta ≡ 0) × (INFINITY ≤ n .phi)) → NodeLeast n b
-  unfolding keep
   solved-least n b e h = record {
     lower = λ test q. omega (arith, verdict-zero G t n (sym (verdict-solved G (said t) test n _ e) ∙ q));
     reached = λ l.
@@ -131,7 +132,6 @@ module _ (G : Game) (t : Bool) where
 
   -- An open leaf is taken or not
   leaf-least : (n : Node (G .Pos)) (b : Children (G .Pos)) → solved n ≡ false → n .expanded ≡ false → n .phi ≡ 1 → n .delta ≡ 1 → NodeLeast n b
-  unfolding keep
   leaf-least n b e x p d = record {
     lower = λ test q. omega (arith, leaf-towards n p d, one test (leaf-taken t (test []) (sym (verdict-leaf G (said t) test n _ e x) ∙ q)));
     reached = λ l. record {
@@ -172,13 +172,13 @@ module _ (G : Game) (t : Bool) where
       own : G .mine (n .pos) ≡ t → NodeLeast n b
       own s =
           let d : Sided (not t) b = subst (λ (u : Bool). Sided (not u) b) s (sided b (i .by-moves)) in
-          from-list some (leastDelta b) (towards-own G t n s ∙ i .phi-is) (λ vs h. one-needed t vs (subst (λ (u : Bool). fromChildren u vs ≡ said t) s h))
+          from-list any (leastDelta b) (towards-own G t n s ∙ i .phi-is) (λ vs h. one-needed t vs (subst (λ (u : Bool). fromChildren u vs ≡ said t) s h))
           (λ vs h. subst (λ (u : Bool). fromChildren u vs ≡ said t) (sym s) (one-enough t vs h)) (m .some-lower d) (m .some-reached d)
 
       other : G .mine (n .pos) ≡ not t → NodeLeast n b
       other s =
           let d : Sided t b = subst (λ (u : Bool). Sided u b) (ap not s ∙ Bool·not-not t) (sided b (i .by-moves)) in
-          from-list every (sumPhi b) (towards-other G t n s ∙ i .delta-is ∙ omega arith) (λ vs h. all-needed t vs (subst (λ (u : Bool). fromChildren u vs ≡ said t) s h))
+          from-list all (sumPhi b) (towards-other G t n s ∙ i .delta-is ∙ omega arith) (λ vs h. all-needed t vs (subst (λ (u : Bool). fromChildren u vs ≡ said t) s h))
           (λ vs h. subst (λ (u : Bool). fromChildren u vs ≡ said t) (sym s) (all-enough t vs h)) (m .all-lower d) (m .all-reached d)
 
       go : (G .mine (n .pos) ≡ t) ⊎ (G .mine (n .pos) ≡ not t) → NodeLeast n b
@@ -187,19 +187,19 @@ module _ (G : Game) (t : Bool) where
 
   -- The first of a list, and the rest
   child-least : (n : Node (G .Pos)) (b ks : Children (G .Pos)) → (HasMove (n .move) ks → ⊥) → NodeLeast n b → ListLeast ks → ListLeast (child n b ks)
-  unfolding verdictsIn leastDelta sumPhi some every
+  unfolding verdictsIn leastDelta sumPhi
   child-least n b ks a m r = record {
-    some-lower = λ d test h. some-low d test (some-cases (isSaid t (first test)) (some (isSaid t) (verdicts test ks)) h);
+    some-lower = λ d test h. some-low d test (one-true (isSaid t (first test)) (any (isSaid t) (verdicts test ks)) h);
     some-reached = λ d l. some-got d l (leb (n .delta) (leastDelta ks)) refl;
     all-lower = λ d test h.
-        let q = every-cases (isSaid t (first test)) (every (isSaid t) (verdicts test ks)) h in
+        let q = both-true (isSaid t (first test)) (all (isSaid t) (verdicts test ks)) h in
         omega (arith, m .lower (onward test (n .move)) (is-said t _ (q .0)), towards-own G t n (d .0), r .all-lower (d .1) test (q .1), count-child test n b ks);
     all-reached = λ d l.
         let g = m .reached (omega (arith, towards-own G t n (d .0))) in
         let h = r .all-reached (d .1) (omega arith) in
         record {
           test = together (n .move) (g .test) (h .test);
-          makes = ap (every (isSaid t)) (verdicts-together (g .test) (h .test) n b ks a) ∙ rw (g .makes, said-is t, h .makes);
+          makes = ap (all (isSaid t)) (verdicts-together (g .test) (h .test) n b ks a) ∙ rw (g .makes, said-is t, h .makes);
           as-many = omega (arith, count-together (g .test) (h .test) n b ks a, g .as-many, h .as-many, towards-own G t n (d .0));
         };
   }
@@ -207,19 +207,19 @@ module _ (G : Game) (t : Bool) where
       first : Test → Verdict
       first test = at (onward test (n .move)) n b
 
-      some-low : Sided (not t) (child n b ks) → (test : Test) → (isSaid t (first test) ≡ true) ⊎ (some (isSaid t) (verdicts test ks) ≡ true)
+      some-low : Sided (not t) (child n b ks) → (test : Test) → (isSaid t (first test) ≡ true) ⊎ (any (isSaid t) (verdicts test ks) ≡ true)
           → min (n .delta) (leastDelta ks) ≤ countIn test (child n b ks)
       some-low d test (inl e) = omega (arith, m .lower (onward test (n .move)) (is-said t _ e), towards-other G t n (d .0), count-child test n b ks)
       some-low d test (inr e) = omega (arith, r .some-lower (d .1) test e, count-child test n b ks)
 
       some-got : Sided (not t) (child n b ks) → min (n .delta) (leastDelta ks) < INFINITY → (u : Bool) → leb (n .delta) (leastDelta ks) ≡ u
-          → Got some (child n b ks) (min (n .delta) (leastDelta ks))
+          → Got any (child n b ks) (min (n .delta) (leastDelta ks))
       some-got d l true e =
           let q = leb-true (n .delta) (leastDelta ks) e in
           let g = m .reached (omega (arith, towards-other G t n (d .0))) in
           record {
             test = together (n .move) (g .test) nothing;
-            makes = ap (some (isSaid t)) (verdicts-together (g .test) nothing n b ks a) ∙ rw (g .makes, said-is t);
+            makes = ap (any (isSaid t)) (verdicts-together (g .test) nothing n b ks a) ∙ rw (g .makes, said-is t);
             as-many = omega (arith, count-together (g .test) nothing n b ks a, g .as-many, keep-none (linesIn ks), towards-other G t n (d .0));
           }
       some-got d l false e =
@@ -227,7 +227,7 @@ module _ (G : Game) (t : Bool) where
           let h = r .some-reached (d .1) (omega arith) in
           record {
             test = together (n .move) nothing (h .test);
-            makes = ap (some (isSaid t)) (verdicts-together nothing (h .test) n b ks a) ∙ ap (λ (w : Bool). isSaid t (at nothing n b) || w) (h .makes) ∙ or-true (isSaid t (at nothing n b));
+            makes = ap (any (isSaid t)) (verdicts-together nothing (h .test) n b ks a) ∙ ap (λ (w : Bool). isSaid t (at nothing n b) || w) (h .makes) ∙ or-true (isSaid t (at nothing n b));
             as-many = omega (arith, count-together nothing (h .test) n b ks a, h .as-many, keep-none (linesAt n (linesIn b)));
           }
 
@@ -240,7 +240,7 @@ module _ (G : Game) (L : Lawful G) (t : Bool) where
   node-least n b (lost e d p v) g z f = solved-least G t n b (zero-solved n (inr d)) (inr (d, p))
 
   list-least : (ks : Children (G .Pos)) → Good G ks → NoMoveTwice ks → size ks ≤ pool-max → ListLeast G t ks
-  unfolding size leastDelta sumPhi verdictsIn linesIn some every keep
+  unfolding size leastDelta sumPhi verdictsIn linesIn
   list-least none g a z = record {
     some-lower = λ d test h. absurd (true≢false (sym h));
     some-reached = λ d l. absurd (omega arith);
@@ -260,7 +260,7 @@ module _ (G : Game) (L : Lawful G) (t : Bool) where
       record {
         set = set;
         settles = record {
-          each-open = λ l i. kept (h .test) lines l i .0;
+          each-open = λ l i. from-keep (h .test) lines l i .0;
           none-twice = keep-distinct (h .test) lines distinct;
           makes = same (h .test) ∙ h .makes;
         };

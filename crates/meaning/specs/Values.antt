@@ -5,16 +5,18 @@ use mathlib.Core.List.{List, [], _∷_, map, List·Memᴰ, List·Memᴰ·head, M
 use mathlib.Core.Bool.{Bool, true, false, not, true≢false, Bool·not-not}
 use Prim.Native.Nat.{ℕ, _<_}
 use native.Mathlib.Omega.{arith}
+use Rattle.rules.specs.Rules.{any, all}
+use Rattle.rules.specs.Tests.{both-true, one-true}
 use Rattle.machine.specs.Game.{Game, value}
 use Rattle.machine.specs.Tree.{Node, solved, Children, none, child, sumPhi}
 use Rattle.machine.specs.Machine.{Verdict}
 use Rattle.machine.specs.Value.{Lawful, value-some, value-all}
 use Rattle.machine.specs.Numbers.{HasMove, ByMoves, NodeOk, open-leaf, inner, won, lost, Inner, Good, unsolved, sound}
-use Rattle.meaning.specs.Meaning.{some, every, Line, linesAt, linesIn, isIn, fromChildren, verdictAt, verdictsIn, rootVerdict, Settles}
+use Rattle.meaning.specs.Meaning.{Line, linesAt, linesIn, isIn, fromChildren, verdictAt, verdictsIn, rootVerdict, Settles}
 use Rattle.meaning.specs.Leaves.{after}
 use Rattle.meaning.specs.Sets.{in-list}
 use Rattle.meaning.specs.Lines.{lines-inner, lines-leaf, zero-solved}
-use Rattle.meaning.specs.Verdicts.{said, isSaid, is-said, some-cases, every-cases, one-needed, all-needed, same-or-not, towards, towards-own, towards-other}
+use Rattle.meaning.specs.Verdicts.{said, isSaid, is-said, one-needed, all-needed, same-or-not, towards, towards-own, towards-other}
 use Rattle.meaning.specs.Verdicts.{verdict-zero, verdict-solved, verdict-inner, verdict-leaf, leaf-taken}
 
 module _ (G : Game) (L : Lawful G) (t : Bool) where
@@ -28,8 +30,8 @@ module _ (G : Game) (L : Lawful G) (t : Bool) where
   -- A node made t, in a list of children of p: the position after its move has the value t
   abbrev Kept : Children (G .Pos) → Type 0
   Kept ks = (p : G .Pos) (test : Line → Bool) → ByMoves G p ks → TurnOut test p (linesIn ks)
-      → (some (isSaid t) (verdictsIn G (said t) test ks) ≡ true → (m : ℕ) × List·Memᴰ m (G .moves p) × (value G (G .play p m) ≡ t))
-      × (every (isSaid t) (verdictsIn G (said t) test ks) ≡ true → (m : ℕ) → HasMove m ks → value G (G .play p m) ≡ t)
+      → (any (isSaid t) (verdictsIn G (said t) test ks) ≡ true → (m : ℕ) × List·Memᴰ m (G .moves p) × (value G (G .play p m) ≡ t))
+      × (all (isSaid t) (verdictsIn G (said t) test ks) ≡ true → (m : ℕ) → HasMove m ks → value G (G .play p m) ≡ t)
 
   some-move : (p : G .Pos) (ks : Children (G .Pos)) → 0 < sumPhi ks → ByMoves G p ks → (m : ℕ) × List·Memᴰ m (G .moves p)
   unfolding sumPhi
@@ -79,13 +81,13 @@ module _ (G : Game) (L : Lawful G) (t : Bool) where
   node-value n b test (lost e d p v) f h q = solved-value n b test (lost e d p v) (zero-solved n (inr d)) q
 
   pub list-kept : (ks : Children (G .Pos)) → Good G ks → Kept ks
-  unfolding verdictsIn linesIn some every after
+  unfolding verdictsIn linesIn after
   list-kept none g p test m h = (λ q. absurd (true≢false (sym q)), λ q k i. absurd i)
   list-kept (child n b ks) g p test m h =
       let first : at (λ l. test (n .move ∷ l)) n b ≡ said t → value G (G .play p (n .move)) ≡ t = λ q. sym (ap (value G) (m .1)) ∙ node-value n b _ (g .0) (list-kept b (g .1)) onward q in
       let rest = list-kept ks (g .2) p test (m .2) (λ l i. h l (Memᴰ·append-right (map (λ (r : Line). n .move ∷ r) (linesAt n (linesIn b))) i)) in (
-        λ q. one first (rest .0) (some-cases _ _ q),
-        λ q. let w = every-cases _ _ q in all first (rest .1) (w .0) (w .1),
+        λ q. one first (rest .0) (one-true _ _ q),
+        λ q. let w = both-true _ _ q in each first (rest .1) (w .0) (w .1),
       )
     where
       onward : TurnOut (λ l. test (n .move ∷ l)) (n .pos) (linesAt n (linesIn b))
@@ -97,15 +99,15 @@ module _ (G : Game) (L : Lawful G) (t : Bool) where
       here : Verdict
       here = at (λ l. test (n .move ∷ l)) n b
 
-      one : (here ≡ said t → value G (G .play p (n .move)) ≡ t) → (some (isSaid t) vs ≡ true → (k : ℕ) × List·Memᴰ k (G .moves p) × (value G (G .play p k) ≡ t))
-          → (isSaid t here ≡ true) ⊎ (some (isSaid t) vs ≡ true) → (k : ℕ) × List·Memᴰ k (G .moves p) × (value G (G .play p k) ≡ t)
+      one : (here ≡ said t → value G (G .play p (n .move)) ≡ t) → (any (isSaid t) vs ≡ true → (k : ℕ) × List·Memᴰ k (G .moves p) × (value G (G .play p k) ≡ t))
+          → (isSaid t here ≡ true) ⊎ (any (isSaid t) vs ≡ true) → (k : ℕ) × List·Memᴰ k (G .moves p) × (value G (G .play p k) ≡ t)
       one f r (inl q) = (n .move, m .0, f (is-said t _ q))
       one f r (inr q) = r q
 
-      all : (here ≡ said t → value G (G .play p (n .move)) ≡ t) → (every (isSaid t) vs ≡ true → (k : ℕ) → HasMove k ks → value G (G .play p k) ≡ t)
-          → isSaid t here ≡ true → every (isSaid t) vs ≡ true → (k : ℕ) → HasMove k (child n b ks) → value G (G .play p k) ≡ t
-      all f r q w k (inl e) = ap (λ (x : ℕ). value G (G .play p x)) e ∙ f (is-said t _ q)
-      all f r q w k (inr i) = r w k i
+      each : (here ≡ said t → value G (G .play p (n .move)) ≡ t) → (all (isSaid t) vs ≡ true → (k : ℕ) → HasMove k ks → value G (G .play p k) ≡ t)
+          → isSaid t here ≡ true → all (isSaid t) vs ≡ true → (k : ℕ) → HasMove k (child n b ks) → value G (G .play p k) ≡ t
+      each f r q w k (inl e) = ap (λ (x : ℕ). value G (G .play p x)) e ∙ f (is-said t _ q)
+      each f r q w k (inr i) = r w k i
 
   -- A tree with a set that makes its root t
   pub tree-value : (n : Node (G .Pos)) (b : Children (G .Pos)) → NodeOk G n b → Good G b → (set : List Line) → Settles G (said t) (child n b none) set

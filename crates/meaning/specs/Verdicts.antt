@@ -2,15 +2,17 @@
 use mathlib.Core.Path.{_≡_, refl, ap, sym, _∙_}
 use mathlib.Core.Logic.{_⊎_, inl, inr}
 use mathlib.Core.List.{List, [], _∷_, map, List·Memᴰ, List·Memᴰ·head, Memᴰ·map, Memᴰ·append-left, Memᴰ·append-right}
-use mathlib.Core.Bool.{Bool, true, false, not, true≢false, _||_, _&&_, cond, Bool·not-not}
+use mathlib.Core.Bool.{Bool, true, false, not, true≢false, cond, Bool·not-not}
 use Prim.Native.Nat.{ℕ, _≤_, _<_}
 use native.Mathlib.Omega.{arith}
 use borrow.Author.Tests.{ne-eqb}
+use Rattle.rules.specs.Rules.{any, all}
+use Rattle.rules.specs.Tests.{both-true}
 use Rattle.machine.specs.Game.{Game}
 use Rattle.machine.specs.Tree.{INFINITY, Node, solved, proofOf, disproofOf, Children, none, child}
 use Rattle.machine.specs.Machine.{Verdict, True, False, Unknown, verdictOf}
 use Rattle.machine.specs.Runs.{Judged, jtrue, jfalse, junknown, judged}
-use Rattle.meaning.specs.Meaning.{some, every, Line, linesAt, linesIn, isTrue, isFalse, fromChildren, verdictAt, verdictsIn}
+use Rattle.meaning.specs.Meaning.{Line, linesAt, linesIn, isTrue, isFalse, fromChildren, verdictAt, verdictsIn}
 
 -- True or False by a Boolean, and the test for it
 abbrev pub said : Bool → Verdict
@@ -57,45 +59,35 @@ unknown-apart t e = true≢false (sym (said-is t) ∙ ap (isSaid t) (sym e) ∙ 
     go true = refl
     go false = refl
 
--- Tests on lists, one element at a time
-pub some-cases : (a b : Bool) → a || b ≡ true → (a ≡ true) ⊎ (b ≡ true)
-some-cases true b e = inl refl
-some-cases false b e = inr e
-
-pub every-cases : (a b : Bool) → a && b ≡ true → (a ≡ true) × (b ≡ true)
-every-cases true b e = (refl, e)
-every-cases false b e = absurd (true≢false (sym e))
-
-none-other : (t : Bool) (vs : List Verdict) → every (isSaid t) vs ≡ true → some (isSaid (not t)) vs ≡ false
-unfolding some every
+none-other : (t : Bool) (vs : List Verdict) → all (isSaid t) vs ≡ true → any (isSaid (not t)) vs ≡ false
 none-other t [] e = refl
-none-other t (v ∷ vs) e = let h = every-cases (isSaid t v) (every (isSaid t) vs) e in rw (other-not t v (h .0), none-other t vs (h .1))
+none-other t (v ∷ vs) e = let h = both-true (isSaid t v) (all (isSaid t) vs) e in rw (other-not t v (h .0), none-other t vs (h .1))
 
 -- WHAT THE CHILDREN MAKE OF A NODE. The side that wants t needs one child, the other side gives it by all
-from-children : (t : Bool) (vs : List Verdict) → fromChildren t vs ≡ cond (some (isSaid t) vs) (said t) (cond (every (isSaid (not t)) vs) (said (not t)) Unknown)
+from-children : (t : Bool) (vs : List Verdict) → fromChildren t vs ≡ cond (any (isSaid t) vs) (said t) (cond (all (isSaid (not t)) vs) (said (not t)) Unknown)
 unfolding fromChildren
 from-children true vs = refl
 from-children false vs = refl
 
-pub one-enough : (t : Bool) (vs : List Verdict) → some (isSaid t) vs ≡ true → fromChildren t vs ≡ said t
+pub one-enough : (t : Bool) (vs : List Verdict) → any (isSaid t) vs ≡ true → fromChildren t vs ≡ said t
 one-enough t vs e = from-children t vs ∙ rw e
 
-pub one-needed : (t : Bool) (vs : List Verdict) → fromChildren t vs ≡ said t → some (isSaid t) vs ≡ true
-one-needed t vs e = go (some (isSaid t) vs) (every (isSaid (not t)) vs) (sym (from-children t vs) ∙ e)
+pub one-needed : (t : Bool) (vs : List Verdict) → fromChildren t vs ≡ said t → any (isSaid t) vs ≡ true
+one-needed t vs e = go (any (isSaid t) vs) (all (isSaid (not t)) vs) (sym (from-children t vs) ∙ e)
   where
     go : (s x : Bool) → cond s (said t) (cond x (said (not t)) Unknown) ≡ said t → s ≡ true
     go true x q = refl
     go false true q = absurd (said-apart t q)
     go false false q = absurd (unknown-apart t q)
 
-all-given : (t : Bool) (vs : List Verdict) → fromChildren (not t) vs ≡ cond (some (isSaid (not t)) vs) (said (not t)) (cond (every (isSaid t) vs) (said t) Unknown)
-all-given t vs = from-children (not t) vs ∙ ap (λ (u : Bool). cond (some (isSaid (not t)) vs) (said (not t)) (cond (every (isSaid u) vs) (said u) Unknown)) (Bool·not-not t)
+all-given : (t : Bool) (vs : List Verdict) → fromChildren (not t) vs ≡ cond (any (isSaid (not t)) vs) (said (not t)) (cond (all (isSaid t) vs) (said t) Unknown)
+all-given t vs = from-children (not t) vs ∙ ap (λ (u : Bool). cond (any (isSaid (not t)) vs) (said (not t)) (cond (all (isSaid u) vs) (said u) Unknown)) (Bool·not-not t)
 
-pub all-enough : (t : Bool) (vs : List Verdict) → every (isSaid t) vs ≡ true → fromChildren (not t) vs ≡ said t
+pub all-enough : (t : Bool) (vs : List Verdict) → all (isSaid t) vs ≡ true → fromChildren (not t) vs ≡ said t
 all-enough t vs e = all-given t vs ∙ rw (none-other t vs e, e)
 
-pub all-needed : (t : Bool) (vs : List Verdict) → fromChildren (not t) vs ≡ said t → every (isSaid t) vs ≡ true
-all-needed t vs e = go (some (isSaid (not t)) vs) (every (isSaid t) vs) (sym (all-given t vs) ∙ e)
+pub all-needed : (t : Bool) (vs : List Verdict) → fromChildren (not t) vs ≡ said t → all (isSaid t) vs ≡ true
+all-needed t vs e = go (any (isSaid (not t)) vs) (all (isSaid t) vs) (sym (all-given t vs) ∙ e)
   where
     go : (s x : Bool) → cond s (said (not t)) (cond x (said t) Unknown) ≡ said t → x ≡ true
     go true x q = absurd (said-apart t q)

@@ -11,7 +11,7 @@ use borrow.Author.Tests.{eqb-true, eq-eqb, ne-eqb}
 use lib.Dec.{eqb}
 use lib.ListN.{length}
 use Rattle.rules.specs.Rules.{Position, code, answers, state, board, boardStates, gameState, moveOf, boardOf, cellOf, leads, cellAt, moveError, keep, everyMove, playable, legalMoves}
-use Rattle.rules.specs.Tests.{both-true, any-at}
+use Rattle.rules.specs.Tests.{both-true, any-at, from-keep, to-keep}
 use Rattle.rules.specs.Boards.{code-states, code-board, length-states, board-short}
 use Rattle.rules.specs.Legal.{legal, legal-error}
 use Rattle.rules.specs.States.{open-of}
@@ -23,32 +23,14 @@ abbrev pub Ascending : List ℕ → Type 0
 Ascending [] = Unit {0}
 Ascending (x ∷ xs) = ((y : ℕ) → List·Memᴰ y xs → x < y) × Ascending xs
 
--- what a list keeps
+-- what is kept of an ascending list
 module _ (f : ℕ → Bool) where
-  from-keep : (l : List ℕ) (m : ℕ) → List·Memᴰ m (keep f l) → List·Memᴰ m l × (f m ≡ true)
-  from-keep [] m i = absurd (List·Memᴰ·not-nil i)
-  from-keep (x ∷ l) m i = go (f x) refl i (λ j. from-keep l m j)
-    where
-      go : (t : Bool) → f x ≡ t → List·Memᴰ m (cond t (x ∷ keep f l) (keep f l)) → (List·Memᴰ m (keep f l) → List·Memᴰ m l × (f m ≡ true))
-          → List·Memᴰ m (x ∷ l) × (f m ≡ true)
-      go true e (List·Memᴰ·head q) h = (List·Memᴰ·head q, ap f q ∙ e)
-      go true e (List·Memᴰ·tail j) h = (List·Memᴰ·tail (h j .0), h j .1)
-      go false e j h = (List·Memᴰ·tail (h j .0), h j .1)
-
-  to-keep : (l : List ℕ) (m : ℕ) → List·Memᴰ m l → f m ≡ true → List·Memᴰ m (keep f l)
-  to-keep (x ∷ l) m (List·Memᴰ·head q) e = rw (sym (ap f q) ∙ e) (List·Memᴰ·head q)
-  to-keep (x ∷ l) m (List·Memᴰ·tail i) e = go (f x) (to-keep l m i e)
-    where
-      go : (t : Bool) → List·Memᴰ m (keep f l) → List·Memᴰ m (cond t (x ∷ keep f l) (keep f l))
-      go true j = List·Memᴰ·tail j
-      go false j = j
-
   ascending-keep : (l : List ℕ) → Ascending l → Ascending (keep f l)
   ascending-keep [] a = tt
   ascending-keep (x ∷ l) a = go (f x) (ascending-keep l (a .1))
     where
       go : (t : Bool) → Ascending (keep f l) → Ascending (cond t (x ∷ keep f l) (keep f l))
-      go true h = (λ y i. a .0 y (from-keep l y i .0), h)
+      go true h = (λ y i. a .0 y (from-keep f l y i .0), h)
       go false h = h
 
 -- the members of a list of answers, and their order

@@ -112,7 +112,7 @@ play p m =
     }
 
 -- The legal moves, by board, then cell, ascending. A finished position has none.
-abbrev pub keep : (ℕ → Bool) → List ℕ → List ℕ
+abbrev pub keep {ℓ} : {A : Type ℓ} → (A → Bool) → List A → List A
 keep f [] = []
 keep f (m ∷ ms) = cond (f m) (m ∷ keep f ms) (keep f ms)
 

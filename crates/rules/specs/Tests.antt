@@ -1,13 +1,13 @@
--- Laws of tests: what a chain of conditions that gives 0 tells, and all, any under a change. Rests on Rules and the library's Booleans.
+-- Laws of tests: what a chain of conditions that gives 0 tells, all and any under a change, and what a test keeps of a list. Rests on Rules and the library's Booleans.
 use mathlib.Core.Bool.{Bool, true, false, cond, not, _&&_, _||_, and-false, and-true, true≢false, false≢true}
 use mathlib.Core.Path.{_≡_, refl, sym, ap, _∙_}
-use mathlib.Core.List.{List, [], _∷_}
+use mathlib.Core.List.{List, [], _∷_, List·Memᴰ, List·Memᴰ·head, List·Memᴰ·tail, List·Memᴰ·not-nil}
 use mathlib.Core.Logic.{_⊎_, inl, inr}
 use Prim.Native.Nat.{ℕ, zero, suc, _<_, suc-le-suc}
 use native.Mathlib.Nat.{not-suc-le-zero, le-of-suc-le-suc}
 use native.Mathlib.Omega.{arith}
 use lib.ListN.{getD, length, set}
-use Rattle.rules.specs.Rules.{all, any}
+use Rattle.rules.specs.Rules.{all, any, keep}
 
 -- a chain of conditions gives 0: its first does not hold, and the rest gives 0
 pub passed : (t : Bool) (n r : ℕ) → cond t (suc n) r ≡ 0 → (t ≡ false) × (r ≡ 0)
@@ -89,3 +89,23 @@ module _ {ℓ} {A : Type ℓ} (f : A → Bool) where
           → (i : ℕ) × (i < length (x ∷ l)) × (f (getD (x ∷ l) i d) ≡ true)
       go (inl q) h = (0, omega arith, q)
       go (inr q) h = let r = h q in (suc (r .0), suc-le-suc (r .1), r .2)
+
+-- what is kept of a list is in it and passes the test, and the other way round
+module _ {A : Type 0} (f : A → Bool) where
+  pub from-keep : (l : List A) (m : A) → List·Memᴰ m (keep f l) → List·Memᴰ m l × (f m ≡ true)
+  from-keep [] m i = absurd (List·Memᴰ·not-nil i)
+  from-keep (x ∷ l) m i = go (f x) refl i (λ j. from-keep l m j)
+    where
+      go : (t : Bool) → f x ≡ t → List·Memᴰ m (cond t (x ∷ keep f l) (keep f l)) → (List·Memᴰ m (keep f l) → List·Memᴰ m l × (f m ≡ true))
+          → List·Memᴰ m (x ∷ l) × (f m ≡ true)
+      go true e (List·Memᴰ·head q) h = (List·Memᴰ·head q, ap f q ∙ e)
+      go true e (List·Memᴰ·tail j) h = (List·Memᴰ·tail (h j .0), h j .1)
+      go false e j h = (List·Memᴰ·tail (h j .0), h j .1)
+
+  pub to-keep : (l : List A) (m : A) → List·Memᴰ m l → f m ≡ true → List·Memᴰ m (keep f l)
+  to-keep (x ∷ l) m (List·Memᴰ·head q) e = rw (sym (ap f q) ∙ e) (List·Memᴰ·head q)
+  to-keep (x ∷ l) m (List·Memᴰ·tail i) e = go (f x) (to-keep l m i e)
+    where
+      go : (t : Bool) → List·Memᴰ m (keep f l) → List·Memᴰ m (cond t (x ∷ keep f l) (keep f l))
+      go true j = List·Memᴰ·tail j
+      go false j = j
