@@ -1,10 +1,11 @@
 -- The entries of a book of verdicts (MANUAL, Book of verdicts): what their 22 bytes say, who may read them, which of them answers a caller for a pair of a record
--- and a rule, and buffers with entries at the front and with a mark set. Rests on the library's numbers and lists, and on the code's enum of callers.
+-- and a rule, and buffers with entries at the front and with a mark set. Rests on the library's numbers and lists, on the rules for lists of the same bytes, and on the code's enum of callers.
 use mathlib.Core.Bool.{Bool, true, false, cond, _&&_, _||_}
 use mathlib.Core.List.{List, [], _∷_, _++_}
 use Prim.Native.Nat.{ℕ, zero, suc, _+_, _*_, _/_, _%_}
 use lib.Dec.{eqb}
 use lib.ListN.{length, getD, take, drop, set}
+pub use Rattle.rules.specs.Rules.{sameBytes}
 use Rattle.entries.specs.declared.Caller.{Caller}
 use Rattle.entries.specs.declared.Caller.the-variants.{Arbiter, Trainer}
 
@@ -53,13 +54,6 @@ allBytes (e ∷ es) = e .bytes ++ (e .last ∷ allBytes es)
 
 abbrev pub withEntries : List Entry → (buffer : List ℕ) → List ℕ
 withEntries es buffer = allBytes es ++ drop (length es * 22) buffer
-
--- Two lists have the same bytes.
-abbrev pub sameBytes : List ℕ → List ℕ → Bool
-sameBytes [] [] = true
-sameBytes [] (y ∷ ys) = false
-sameBytes (x ∷ xs) [] = false
-sameBytes (x ∷ xs) (y ∷ ys) = eqb x y && sameBytes xs ys
 
 -- A last byte has a verdict if its verdict bits are 1 or 2; it holds a rule if it has the rule and a verdict. An entry holds a pair if it has the record's bytes and
 -- its last byte holds the rule.

@@ -1,32 +1,17 @@
 -- What a caller finds among entries: the entry that answers, and what storing one more changes. Rests on Entries and Buffers.
 use mathlib.Core.Path.{_≡_, refl, _∙_}
-use mathlib.Core.Bool.{Bool, true, false, cond, _||_, false≢true}
+use mathlib.Core.Bool.{Bool, true, false, cond, _||_}
 use mathlib.Core.List.{List, [], _∷_}
 use mathlib.Core.Logic.{_⊎_, inl, inr}
 use Prim.Native.Nat.{ℕ, _<_}
 use native.Mathlib.Omega.{arith}
 use borrow.Author.Tests.{eqb-true, eq-eqb}
 use lib.Dec.{eqb}
-use Rattle.rules.specs.Tests.{both-true, one-true}
+use Rattle.rules.specs.Tests.{both-true, one-true, same-equal, same-self}
 use Rattle.entries.specs.Entries.{Entry, ruleBits, verdictBits, mayRead, sameBytes, hasVerdict, holdsRule, holdsPair, answers, firstVerdict, find, newEntry, storing}
 use Rattle.entries.specs.Buffers.{All}
 use Rattle.entries.specs.declared.Caller.{Caller}
 use Rattle.entries.specs.declared.Caller.the-variants.{Arbiter}
-
--- the same bytes are equal lists, and back
-pub same-equal : (xs ys : List ℕ) → sameBytes xs ys ≡ true → xs ≡ ys
-same-equal [] [] h = refl
-same-equal [] (y ∷ ys) h = absurd (false≢true h)
-same-equal (x ∷ xs) [] h = absurd (false≢true h)
-same-equal (x ∷ xs) (y ∷ ys) h =
-    let p = both-true (eqb x y) (sameBytes xs ys) h in
-    let a : x ≡ y = eqb-true x y (p .0) in
-    let b : xs ≡ ys = same-equal xs ys (p .1) in
-    cc
-
-pub same-self : (xs : List ℕ) → sameBytes xs xs ≡ true
-same-self [] = refl
-same-self (x ∷ xs) = rw (eq-eqb x x refl) (same-self xs)
 
 -- a verdict: True or False
 abbrev pub IsVerdict : ℕ → Type 0

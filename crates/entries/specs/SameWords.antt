@@ -11,7 +11,7 @@ use lib.Dec.{eqb}
 use lib.ListN.{length, drop, getD, length-drop}
 use lib.Seq.{ext-getD, getD-take, getD-drop, length-take-le}
 use Rattle.entries.specs.Entries.{sameBytes}
-use Rattle.entries.specs.Finding.{same-equal, same-self}
+use Rattle.rules.specs.Tests.{same-equal, same-self}
 use Rattle.entries.specs.Scanning.{recordAt}
 
 -- the number that n bytes make from byte k on, the least significant first

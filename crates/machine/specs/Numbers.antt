@@ -121,6 +121,14 @@ open-of n e = go (is-solved n)
     go (yes q z) = absurd (let y : _≡_ {A = ℕ} 0 1 = cc in omega arith)
     go (no q x y) = (x, y)
 
+pub zero-solved : {Pos : Type 0} (n : Node Pos) → (n .phi ≡ 0) ⊎ (n .delta ≡ 0) → solved n ≡ true
+zero-solved n z = go (is-solved n) z
+  where
+    go : Solved n → (n .phi ≡ 0) ⊎ (n .delta ≡ 0) → solved n ≡ true
+    go (yes e w) q = e
+    go (no e a b) (inl q) = absurd (omega arith)
+    go (no e a b) (inr q) = absurd (omega arith)
+
 openAt-leaf : {Pos : Type 0} (n : Node Pos) (below : ℕ) → solved n ≡ false → n .expanded ≡ false → openAt n below ≡ 1
 unfolding openAt
 openAt-leaf n below e x = ap (λ (b : Bool). cond b 0 (cond (n .expanded) below 1)) e ∙ ap (λ (b : Bool). cond b below 1) x

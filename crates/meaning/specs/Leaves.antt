@@ -1,4 +1,4 @@
--- What the lines of open leaves name: positions, reached by legal moves. Definitions only. Rests on Meaning, and on Sequences, Numbers and Reached of the machine.
+-- What the lines of open leaves name: positions, reached by legal moves. Definitions only. Rests on Meaning, and on Value, Sequences, Numbers and Reached of the machine.
 use mathlib.Core.Path.{_≡_}
 use mathlib.Core.List.{[], _∷_, List·Memᴰ}
 use mathlib.Core.Bool.{false}
@@ -12,22 +12,22 @@ use Rattle.machine.specs.Reached.{In}
 use Rattle.meaning.specs.Meaning.{Line, openLines}
 
 -- The position after a line
-unfoldable pub after : (G : Game) → G .Pos → Line → G .Pos
-after G p [] = p
-after G p (m ∷ l) = after G (G .play p m) l
+unfoldable pub positionAfter : (G : Game) → G .Pos → Line → G .Pos
+positionAfter G p [] = p
+positionAfter G p (m ∷ l) = positionAfter G (G .play p m) l
 
--- A line played from p names an open leaf of a tree: its moves are legal, and where they lead stands a node that is neither solved nor expanded
-pub record Names (G : Game) (tree : Children (G .Pos)) (p : G .Pos) (l : Line) : Type 0 where
+-- A line played from p: its moves are legal, and the position after them is that of an open leaf of the tree
+pub record NamesLeaf (G : Game) (tree : Children (G .Pos)) (p : G .Pos) (l : Line) : Type 0 where
   pub legal : Legal G p l
   pub node : Node (G .Pos)
   pub below : Children (G .Pos)
   pub there : In node below tree
-  pub at-end : node .pos ≡ after G p l
-  pub unsolved-is : solved node ≡ false
+  pub at-end : node .pos ≡ positionAfter G p l
+  pub not-solved : solved node ≡ false
   pub unexpanded : node .expanded ≡ false
 
--- The lines of a tree that is searched from p: each names an open leaf, none stands twice, and they are as many as the open leaves
+-- The lines of a tree that is searched from p: each is so, none stands twice, and they are as many as the open leaves
 pub record LeavesNamed (G : Game) (tree : Children (G .Pos)) (p : G .Pos) : Type 0 where
-  pub names : (l : Line) → List·Memᴰ l (openLines tree) → Names G tree p l
+  pub names : (l : Line) → List·Memᴰ l (openLines tree) → NamesLeaf G tree p l
   pub none-twice : Distinct (openLines tree)
   pub as-many : length (openLines tree) ≡ openLeaves tree

@@ -10,10 +10,10 @@ use Rattle.machine.specs.Game.{Game}
 use Rattle.machine.specs.Tree.{Node, solved, Children, none, child}
 use Rattle.machine.specs.Value.{Distinct}
 use Rattle.machine.specs.Sequences.{distinct-map, distinct-append}
-use Rattle.machine.specs.Numbers.{HasMove, ByMoves, NoMoveTwice, NodeOk, open-leaf, inner, won, lost, Good, Solved, yes, no, is-solved, unsolved, tally, openAt, openLeaves}
+use Rattle.machine.specs.Numbers.{HasMove, ByMoves, NoMoveTwice, NodeOk, open-leaf, inner, won, lost, Good, unsolved, zero-solved, tally, openAt, openLeaves}
 use Rattle.machine.specs.Reached.{here, beneath, further}
 use Rattle.meaning.specs.Meaning.{Line, linesAt, linesIn, openLines}
-use Rattle.meaning.specs.Leaves.{after, Names, LeavesNamed}
+use Rattle.meaning.specs.Leaves.{positionAfter, NamesLeaf, LeavesNamed}
 
 module _ {Pos : Type 0} where
   -- The three kinds of node
@@ -29,27 +29,19 @@ module _ {Pos : Type 0} where
   unfolding linesAt
   lines-leaf n below e x = rw (e, x)
 
-  pub zero-solved : (n : Node Pos) → (n .phi ≡ 0) ⊎ (n .delta ≡ 0) → solved n ≡ true
-  zero-solved n z = go (is-solved n) z
-    where
-      go : Solved n → (n .phi ≡ 0) ⊎ (n .delta ≡ 0) → solved n ≡ true
-      go (yes e w) q = e
-      go (no e a b) (inl q) = absurd (omega arith)
-      go (no e a b) (inr q) = absurd (omega arith)
-
   -- A line in a list of children begins with the move of one of them
-  pub record Begins (ks : Children Pos) (l : Line) : Type 0 where
+  pub record StartsWith (ks : Children Pos) (l : Line) : Type 0 where
     pub move : ℕ
     pub rest : Line
     pub is : move ∷ rest ≡ l
     pub has : HasMove move ks
 
-  pub begins : (ks : Children Pos) (l : Line) → List·Memᴰ l (linesIn ks) → Begins ks l
+  pub starts-with : (ks : Children Pos) (l : Line) → List·Memᴰ l (linesIn ks) → StartsWith ks l
   unfolding linesIn
-  begins none l i = absurd (List·Memᴰ·not-nil i)
-  begins (child n b ks) l i = go (List·Memᴰ·append-cases (map (λ r. n .move ∷ r) (linesAt n (linesIn b))) i) (λ j. begins ks l j)
+  starts-with none l i = absurd (List·Memᴰ·not-nil i)
+  starts-with (child n b ks) l i = go (List·Memᴰ·append-cases (map (λ r. n .move ∷ r) (linesAt n (linesIn b))) i) (λ j. starts-with ks l j)
     where
-      go : List·Memᴰ l (map (λ r. n .move ∷ r) (linesAt n (linesIn b))) ⊎ List·Memᴰ l (linesIn ks) → (List·Memᴰ l (linesIn ks) → Begins ks l) → Begins (child n b ks) l
+      go : List·Memᴰ l (map (λ r. n .move ∷ r) (linesAt n (linesIn b))) ⊎ List·Memᴰ l (linesIn ks) → (List·Memᴰ l (linesIn ks) → StartsWith ks l) → StartsWith (child n b ks) l
       go (inl j) h = let r = Memᴰ·of-map (λ (x : Line). n .move ∷ x) (linesAt n (linesIn b)) j in record { move = n .move; rest = r .0; is = r .2; has = inl refl }
       go (inr j) h = let r = h j in record { move = r .move; rest = r .rest; is = r .is; has = inr (r .has) }
 
@@ -89,44 +81,44 @@ module _ (G : Game) where
       apart : (l : Line) → List·Memᴰ l (map (λ r. n .move ∷ r) (linesAt n (linesIn b))) → List·Memᴰ l (linesIn ks) → ⊥
       apart l i j =
           let x = Memᴰ·of-map (λ (r : Line). n .move ∷ r) (linesAt n (linesIn b)) i in
-          let y = begins ks l j in
+          let y = starts-with ks l j in
           let e : y .move ≡ n .move = cc (x .2, y .is) in
           a .0 (subst (λ (m : ℕ). HasMove m ks) e (y .has))
 
 module _ (G : Game) where
   -- Each names an open leaf: of a node, from the lines below it; and in a list of children of p
-  names-at : (n : Node (G .Pos)) (b ks : Children (G .Pos)) → NodeOk G n b → (ByMoves G (n .pos) b → (l : Line) → List·Memᴰ l (linesIn b) → Names G b (n .pos) l)
-      → (l : Line) → List·Memᴰ l (linesAt n (linesIn b)) → Names G (child n b ks) (n .pos) l
-  unfolding after
+  names-at : (n : Node (G .Pos)) (b ks : Children (G .Pos)) → NodeOk G n b → (ByMoves G (n .pos) b → (l : Line) → List·Memᴰ l (linesIn b) → NamesLeaf G b (n .pos) l)
+      → (l : Line) → List·Memᴰ l (linesAt n (linesIn b)) → NamesLeaf G (child n b ks) (n .pos) l
+  unfolding positionAfter
   names-at n b ks (open-leaf o) f l i =
       let u = unsolved n (omega (arith, o .phi-is)) (omega (arith, o .delta-is)) in
       go (subst (List·Memᴰ l) (lines-leaf n (linesIn b) u (o .closed)) i) u
     where
-      go : List·Memᴰ l ([] ∷ []) → solved n ≡ false → Names G (child n b ks) (n .pos) l
-      go (List·Memᴰ·head e) u = rw e (record { legal = tt; node = n; below = b; there = here; at-end = refl; unsolved-is = u; unexpanded = o .closed })
+      go : List·Memᴰ l ([] ∷ []) → solved n ≡ false → NamesLeaf G (child n b ks) (n .pos) l
+      go (List·Memᴰ·head e) u = rw e (record { legal = tt; node = n; below = b; there = here; at-end = refl; not-solved = u; unexpanded = o .closed })
       go (List·Memᴰ·tail j) u = absurd (List·Memᴰ·not-nil j)
   names-at n b ks (inner j) f l i =
       let r = f (j .by-moves) l (subst (List·Memᴰ l) (lines-inner n (linesIn b) (unsolved n (j .phi-pos) (j .delta-pos)) (j .opened)) i) in
-      record { legal = r .legal; node = r .node; below = r .below; there = beneath (r .there); at-end = r .at-end; unsolved-is = r .unsolved-is; unexpanded = r .unexpanded }
+      record { legal = r .legal; node = r .node; below = r .below; there = beneath (r .there); at-end = r .at-end; not-solved = r .not-solved; unexpanded = r .unexpanded }
   names-at n b ks (won e p d v) f l i = absurd (List·Memᴰ·not-nil (subst (List·Memᴰ l) (lines-solved n (linesIn b) (zero-solved n (inl p))) i))
   names-at n b ks (lost e d p v) f l i = absurd (List·Memᴰ·not-nil (subst (List·Memᴰ l) (lines-solved n (linesIn b) (zero-solved n (inr d))) i))
 
-  pub names-in : (p : G .Pos) (ks : Children (G .Pos)) → Good G ks → ByMoves G p ks → (l : Line) → List·Memᴰ l (linesIn ks) → Names G ks p l
-  unfolding linesIn after
+  pub names-in : (p : G .Pos) (ks : Children (G .Pos)) → Good G ks → ByMoves G p ks → (l : Line) → List·Memᴰ l (linesIn ks) → NamesLeaf G ks p l
+  unfolding linesIn positionAfter
   names-in p none g m l i = absurd (List·Memᴰ·not-nil i)
   names-in p (child n b ks) g m l i =
       go (List·Memᴰ·append-cases (map (λ r. n .move ∷ r) (linesAt n (linesIn b))) i) (names-at n b ks (g .0) (λ w. names-in (n .pos) b (g .1) w)) (names-in p ks (g .2) (m .2) l)
     where
       go : List·Memᴰ l (map (λ r. n .move ∷ r) (linesAt n (linesIn b))) ⊎ List·Memᴰ l (linesIn ks)
-          → ((r : Line) → List·Memᴰ r (linesAt n (linesIn b)) → Names G (child n b ks) (n .pos) r) → (List·Memᴰ l (linesIn ks) → Names G ks p l) → Names G (child n b ks) p l
+          → ((r : Line) → List·Memᴰ r (linesAt n (linesIn b)) → NamesLeaf G (child n b ks) (n .pos) r) → (List·Memᴰ l (linesIn ks) → NamesLeaf G ks p l) → NamesLeaf G (child n b ks) p l
       go (inl j) f h =
           let x = Memᴰ·of-map (λ (r : Line). n .move ∷ r) (linesAt n (linesIn b)) j in
-          let r : Names G (child n b ks) (G .play p (n .move)) (x .0) = subst (λ (q : G .Pos). Names G (child n b ks) q (x .0)) (m .1) (f (x .0) (x .1)) in
-          subst (Names G (child n b ks) p) (x .2)
-          (record { legal = (m .0, r .legal); node = r .node; below = r .below; there = r .there; at-end = r .at-end; unsolved-is = r .unsolved-is; unexpanded = r .unexpanded })
+          let r : NamesLeaf G (child n b ks) (G .play p (n .move)) (x .0) = subst (λ (q : G .Pos). NamesLeaf G (child n b ks) q (x .0)) (m .1) (f (x .0) (x .1)) in
+          subst (NamesLeaf G (child n b ks) p) (x .2)
+          (record { legal = (m .0, r .legal); node = r .node; below = r .below; there = r .there; at-end = r .at-end; not-solved = r .not-solved; unexpanded = r .unexpanded })
       go (inr j) f h =
           let r = h j in
-          record { legal = r .legal; node = r .node; below = r .below; there = further (r .there); at-end = r .at-end; unsolved-is = r .unsolved-is; unexpanded = r .unexpanded }
+          record { legal = r .legal; node = r .node; below = r .below; there = further (r .there); at-end = r .at-end; not-solved = r .not-solved; unexpanded = r .unexpanded }
 
 pub tree-named : (G : Game) (n : Node (G .Pos)) (b : Children (G .Pos)) → NodeOk G n b → Good G b → LeavesNamed G (child n b none) (n .pos)
 unfolding openLines linesIn

@@ -1,23 +1,24 @@
 -- What proof and disproof of an Unknown mean: sets of open leaves of the machine's tree, and what the root comes to when they are all taken as True, or all as False.
--- Definitions only, in the field's terms: proof set and disproof set. Rests on Machine, and on the rules' tests of lists.
+-- Definitions only, in the field's terms: proof set and disproof set. Rests on Machine, on Value for Distinct,
+-- and on the rules' tests of lists.
 use mathlib.Core.Path.{_≡_}
 use mathlib.Core.List.{List, [], _∷_, _++_, map, List·Memᴰ}
-use mathlib.Core.Bool.{Bool, true, false, _&&_, cond}
+use mathlib.Core.Bool.{Bool, true, false, cond}
 use Prim.Native.Nat.{ℕ, _≤_}
-use lib.Dec.{eqb}
 use lib.ListN.{length}
-use Rattle.rules.specs.Rules.{any, all}
+use Rattle.rules.specs.Rules.{any, all, sameBytes}
 use Rattle.machine.specs.Game.{Game}
 use Rattle.machine.specs.Tree.{Node, solved, proofOf, disproofOf, Children, none, child}
 use Rattle.machine.specs.Machine.{Verdict, True, False, Unknown, verdictOf}
 use Rattle.machine.specs.Value.{Distinct}
 
--- THE OPEN LEAVES. Each is named by its line, the moves that lead to it from the root; a position that two lines lead to is two leaves
+-- THE OPEN LEAVES: the nodes that are neither solved nor expanded. Each is named by its line of play, the moves that lead to it from the root, so a position that two lines
+-- lead to is two leaves
 abbrev pub Line : Type 0
 Line = List ℕ
 
 module _ {Pos : Type 0} where
-  -- At a node and below it, where those below are known: a solved node has none, an expanded one those below, any other is one itself
+  -- At a node and below it, given those below: none if it is solved, those below if it is expanded, otherwise the node itself, named by no move
   unfoldable pub linesAt : Node Pos → List Line → List Line
   linesAt n below = cond (solved n) [] (cond (n .expanded) below ([] ∷ []))
 
@@ -29,15 +30,9 @@ module _ {Pos : Type 0} where
   openLines none = []
   openLines (child n b ks) = linesAt n (linesIn b)
 
--- A set of leaves is a list of lines
-unfoldable pub sameLine : Line → Line → Bool
-sameLine [] [] = true
-sameLine [] (m ∷ l) = false
-sameLine (k ∷ r) [] = false
-sameLine (k ∷ r) (m ∷ l) = eqb k m && sameLine r l
-
+-- A set of leaves is a list of their lines; whether it has a line
 unfoldable pub isIn : List Line → Line → Bool
-isIn set l = any (sameLine l) set
+isIn set l = any (sameBytes l) set
 
 -- THREE VALUES, the machine's verdicts: Unknown is open
 unfoldable pub isTrue : Verdict → Bool
@@ -50,15 +45,15 @@ isFalse True = false
 isFalse False = true
 isFalse Unknown = false
 
--- A node by its children. Where the root's side moves one True child is enough for True, and all False make it False; where the other side moves one False child is
--- enough for False, and all True make it True; else it is open
+-- A node by its children. Where the root's side is to move one True child is enough for True, and all False make it False; where the other side is to move one False child
+-- is enough for False, and all True make it True; else it is open
 unfoldable pub fromChildren : (mine : Bool) → List Verdict → Verdict
 fromChildren true vs = cond (any isTrue vs) True (cond (all isFalse vs) False Unknown)
 fromChildren false vs = cond (any isFalse vs) False (cond (all isTrue vs) True Unknown)
 
 module _ (G : Game) (v : Verdict) where
-  -- A node when some leaves are taken as v and the other open ones stay open, where its children's verdicts are known. A solved node has the verdict of its numbers, also
-  -- if all below it was freed; an expanded one what its children make of it; an open leaf is v if it is taken
+  -- The verdict of a node, given its children's, where some leaves are taken as v and the other open ones stay open; taken is asked by the moves from this node on. A solved
+  -- node has the verdict of its numbers, also if all below it was freed; an expanded one what its children make of it; an open leaf is v if it is taken, else open
   unfoldable pub verdictAt : (taken : Line → Bool) → Node (G .Pos) → List Verdict → Verdict
   verdictAt taken n below =
       cond (solved n) (verdictOf (proofOf G n) (disproofOf G n)) (cond (n .expanded) (fromChildren (G .mine (n .pos)) below) (cond (taken []) v Unknown))
@@ -67,7 +62,7 @@ module _ (G : Game) (v : Verdict) where
   verdictsIn taken none = []
   verdictsIn taken (child n b ks) = let onward : Line → Bool = λ l. taken (n .move ∷ l) in verdictAt onward n (verdictsIn onward b) ∷ verdictsIn taken ks
 
-  unfoldable pub rootVerdict : List Line → Children (G .Pos) → Verdict  -- of a tree, with a set taken as v
+  unfoldable pub rootVerdict : List Line → Children (G .Pos) → Verdict  -- the root's, with a set taken as v
   rootVerdict set none = Unknown
   rootVerdict set (child n b ks) = verdictAt (isIn set) n (verdictsIn (isIn set) b)
 
@@ -81,7 +76,7 @@ module _ (G : Game) (v : Verdict) where
   pub record Smallest (tree : Children (G .Pos)) (k : ℕ) : Type 0 where
     pub set : List Line
     pub settles : Settles tree set
-    pub size : length set ≡ k
+    pub size-is : length set ≡ k
     pub no-fewer : (other : List Line) → Settles tree other → k ≤ length other
 
 -- What two numbers mean of a tree: proof is the size of its smallest proof set, disproof that of its smallest disproof set

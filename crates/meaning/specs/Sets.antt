@@ -1,17 +1,16 @@
--- Sets of lines, as tests and as lists: what a test keeps of a list, and the test of being in one. Rests on Meaning, and on the rules' laws of tests.
+-- Sets of lines, as tests and as lists: what a test keeps of a list, and the test of being in one. Rests on Meaning, on the rules' laws of tests, and on
+-- Value and Sequences of the machine.
 use mathlib.Core.Path.{_≡_, refl, ap, sym, _∙_}
 use mathlib.Core.List.{List, [], _∷_, _++_, map, List·Memᴰ, List·Memᴰ·head, List·Memᴰ·tail}
-use mathlib.Core.Bool.{Bool, true, false, true≢false, _||_, _&&_, cond, or-true}
+use mathlib.Core.Bool.{Bool, true, false, true≢false, _||_, cond, or-true}
 use Prim.Native.Nat.{suc, _+_, _≤_}
 use native.Mathlib.Omega.{arith}
-use lib.Dec.{eqb}
 use lib.ListN.{length}
-use borrow.Author.Tests.{eqb-true, eq-eqb}
-use Rattle.rules.specs.Rules.{keep}
-use Rattle.rules.specs.Tests.{from-keep, to-keep}
+use Rattle.rules.specs.Rules.{keep, sameBytes}
+use Rattle.rules.specs.Tests.{from-keep, to-keep, same-equal, same-self}
 use Rattle.machine.specs.Value.{Distinct}
 use Rattle.machine.specs.Sequences.{no-longer}
-use Rattle.meaning.specs.Meaning.{Line, sameLine, isIn}
+use Rattle.meaning.specs.Meaning.{Line, isIn}
 
 module _ {A : Type 0} where
   pub keep-append : (test : A → Bool) (l r : List A) → length (keep test (l ++ r)) ≡ length (keep test l) + length (keep test r)
@@ -49,37 +48,21 @@ module _ {A : Type 0} where
       go false h = h
 
 -- The test of being in a list
-pub same-lines : (k l : Line) → sameLine k l ≡ true → k ≡ l
-unfolding sameLine
-same-lines [] [] e = refl
-same-lines [] (m ∷ l) e = absurd (true≢false (sym e))
-same-lines (n ∷ k) [] e = absurd (true≢false (sym e))
-same-lines (n ∷ k) (m ∷ l) e = go (eqb n m) refl e (λ q. same-lines k l q)
-  where
-    go : (b : Bool) → eqb n m ≡ b → b && sameLine k l ≡ true → (sameLine k l ≡ true → k ≡ l) → n ∷ k ≡ m ∷ l
-    go true q h f = cc (eqb-true n m q, f h)
-    go false q h f = absurd (true≢false (sym h))
-
-pub same-itself : (l : Line) → sameLine l l ≡ true
-unfolding sameLine
-same-itself [] = refl
-same-itself (m ∷ l) = rw (eq-eqb m m refl, same-itself l)
-
 pub in-list : (set : List Line) (l : Line) → isIn set l ≡ true → List·Memᴰ l set
 unfolding isIn
 in-list [] l e = absurd (true≢false (sym e))
-in-list (k ∷ set) l e = go (sameLine l k) refl e (λ q. in-list set l q)
+in-list (k ∷ set) l e = go (sameBytes l k) refl e (λ q. in-list set l q)
   where
-    go : (b : Bool) → sameLine l k ≡ b → b || isIn set l ≡ true → (isIn set l ≡ true → List·Memᴰ l set) → List·Memᴰ l (k ∷ set)
-    go true q h f = List·Memᴰ·head (same-lines l k q)
+    go : (b : Bool) → sameBytes l k ≡ b → b || isIn set l ≡ true → (isIn set l ≡ true → List·Memᴰ l set) → List·Memᴰ l (k ∷ set)
+    go true q h f = List·Memᴰ·head (same-equal l k q)
     go false q h f = List·Memᴰ·tail (f h)
 
 pub list-in : (set : List Line) (l : Line) → List·Memᴰ l set → isIn set l ≡ true
 unfolding isIn
-list-in (k ∷ set) l (List·Memᴰ·head e) = rw (ap (sameLine l) (sym e) ∙ same-itself l)
-list-in (k ∷ set) l (List·Memᴰ·tail i) = ap (λ (b : Bool). sameLine l k || b) (list-in set l i) ∙ or-true (sameLine l k)
+list-in (k ∷ set) l (List·Memᴰ·head e) = rw (ap (sameBytes l) (sym e) ∙ same-self l)
+list-in (k ∷ set) l (List·Memᴰ·tail i) = ap (λ (b : Bool). sameBytes l k || b) (list-in set l i) ∙ or-true (sameBytes l k)
 
--- A test on a list of lines, and the test of being among those that pass it, are the same there
+-- On the lines of a list, being among those that pass a test is passing it
 pub as-test : (test : Line → Bool) (lines : List Line) (l : Line) → List·Memᴰ l lines → isIn (keep test lines) l ≡ test l
 as-test test lines l i = go (test l) (isIn (keep test lines) l) refl refl
   where
@@ -88,6 +71,6 @@ as-test test lines l i = go (test l) (isIn (keep test lines) l) refl refl
     go false true e d = absurd (true≢false (sym (from-keep test lines l (in-list (keep test lines) l d) .1) ∙ e))
     go false false e d = d ∙ sym e
 
--- A set has no fewer members than lines of the list are in it
+-- A set has no fewer members than there are lines of the list in it
 pub no-fewer-than : (set lines : List Line) → Distinct lines → length (keep (isIn set) lines) ≤ length set
 no-fewer-than set lines d = no-longer (keep (isIn set) lines) set (keep-distinct (isIn set) lines d) (λ l i. in-list set l (from-keep (isIn set) lines l i .1))

@@ -1,5 +1,6 @@
 -- The numbers of an unsolved root are the sizes of the smallest sets, of any tree whose nodes are right. By induction over the tree: a node has one number towards True and one towards
--- False, and of a list of children the least delta counts where one child is enough, the sum of the phis where all are needed. Rests on Lines, Sets and Verdicts.
+-- False, and of a list of children the least delta counts where one child is enough, the sum of the phis where all are needed. Rests on Lines, Sets and Verdicts, and on Numbers
+-- and Place of the machine.
 use mathlib.Core.Path.{_≡_, refl, ap, sym, _∙_, subst}
 use mathlib.Core.Logic.{_⊎_, inl, inr}
 use mathlib.Core.List.{List, [], _∷_, map, List·Memᴰ}
@@ -15,15 +16,15 @@ use Rattle.machine.specs.Game.{Game}
 use Rattle.machine.specs.Tree.{INFINITY, u32-max, Node, solved, Children, none, child, size, leastDelta, sumPhi}
 use Rattle.machine.specs.Machine.{Verdict}
 use Rattle.machine.specs.Value.{Distinct, Lawful}
-use Rattle.machine.specs.Numbers.{HasMove, ByMoves, NoMoveTwice, Inner, NodeOk, open-leaf, inner, won, lost, Good, unsolved, open-of}
+use Rattle.machine.specs.Numbers.{HasMove, ByMoves, NoMoveTwice, Inner, NodeOk, open-leaf, inner, won, lost, Good, unsolved, zero-solved, open-of}
 use Rattle.machine.specs.Numbers.{tally, openAt, openLeaves, open-size, Nums, nwon, nlost, nopen, numbers, bounded}
 use Rattle.machine.specs.Place.{pool-max}
-use Rattle.meaning.specs.Meaning.{Line, linesAt, linesIn, openLines, isIn, fromChildren, verdictAt, verdictsIn, rootVerdict, Smallest}
+use Rattle.meaning.specs.Meaning.{Line, linesAt, linesIn, openLines, isIn, fromChildren, verdictsIn, rootVerdict, Smallest}
 use Rattle.meaning.specs.Sets.{keep-append, keep-map, keep-same, keep-none, keep-distinct, as-test, no-fewer-than}
-use Rattle.meaning.specs.Lines.{lines-inner, lines-leaf, zero-solved, begins, distinct-at, distinct-in}
-use Rattle.meaning.specs.Verdicts.{said, isSaid, said-is, is-said, one-enough, one-needed, all-enough, all-needed, same-or-not}
+use Rattle.meaning.specs.Lines.{lines-inner, lines-leaf, starts-with, distinct-at, distinct-in}
+use Rattle.meaning.specs.Verdicts.{verdictFor, comesTo, comes-itself, comes-is, one-enough, one-needed, all-enough, all-needed, same-or-not}
 use Rattle.meaning.specs.Verdicts.{towards, towards-own, towards-other, phi-or-delta}
-use Rattle.meaning.specs.Verdicts.{verdict-zero, zero-verdict, verdict-solved, verdict-inner, verdict-leaf, leaf-taken, same-at, same-in}
+use Rattle.meaning.specs.Verdicts.{verdict-zero, zero-verdict, verdict-solved, verdictBelow, verdicts, verdict-inner, verdict-leaf, leaf-taken, same-at, same-in}
 
 -- A set as a test of lines
 abbrev Test : Type 0
@@ -35,24 +36,24 @@ onward test m l = test (m ∷ l)
 abbrev nothing : Test
 nothing l = false
 
--- Put together: after the move m as the one says, elsewhere as the other
-together : ℕ → Test → Test → Test
-together m g h [] = false
-together m g h (k ∷ l) = cond (eqb k m) (g l) (h (k ∷ l))
+-- After the move m as g says, after any other as h says; the empty line is not taken
+joined : ℕ → Test → Test → Test
+joined m g h [] = false
+joined m g h (k ∷ l) = cond (eqb k m) (g l) (h (k ∷ l))
 
-together-on : (m : ℕ) (g h : Test) → onward (together m g h) m ≡ g
-unfolding together
-together-on m g h = λ i l. at l i
+joined-on : (m : ℕ) (g h : Test) → onward (joined m g h) m ≡ g
+unfolding joined
+joined-on m g h = λ i l. at l i
   where
     at : (l : Line) → cond (eqb m m) (g l) (h (m ∷ l)) ≡ g l
     at l = rw (eq-eqb m m refl)
 
 module _ {Pos : Type 0} where
-  together-off : (m : ℕ) (g h : Test) (ks : Children Pos) → (HasMove m ks → ⊥) → (l : Line) → List·Memᴰ l (linesIn ks) → together m g h l ≡ h l
-  unfolding together
-  together-off m g h ks a l i =
-      let b = begins ks l i in
-      subst (λ (r : Line). together m g h r ≡ h r) (b .is) (rw (ne-eqb (b .move) m (λ e. a (subst (λ (k : ℕ). HasMove k ks) e (b .has)))))
+  joined-off : (m : ℕ) (g h : Test) (ks : Children Pos) → (HasMove m ks → ⊥) → (l : Line) → List·Memᴰ l (linesIn ks) → joined m g h l ≡ h l
+  unfolding joined
+  joined-off m g h ks a l i =
+      let b = starts-with ks l i in
+      subst (λ (r : Line). joined m g h r ≡ h r) (b .is) (rw (ne-eqb (b .move) m (λ e. a (subst (λ (k : ℕ). HasMove k ks) e (b .has)))))
 
   -- How many open leaves pass a test: at a node and below it, and in a list of children
   abbrev countAt : Test → Node Pos → Children Pos → ℕ
@@ -66,38 +67,31 @@ module _ {Pos : Type 0} where
   count-child test n b ks =
       omega (arith, keep-append test (map (λ (l : Line). n .move ∷ l) (linesAt n (linesIn b))) (linesIn ks), keep-map test (λ (l : Line). n .move ∷ l) (linesAt n (linesIn b)))
 
-  count-together : (g h : Test) (n : Node Pos) (b ks : Children Pos) → (HasMove (n .move) ks → ⊥) → countIn (together (n .move) g h) (child n b ks) ≡ countAt g n b + countIn h ks
-  count-together g h n b ks a =
-      let M = together (n .move) g h in
-      count-child M n b ks ∙ cc (ap (λ (test : Test). countAt test n b) (together-on (n .move) g h), ap (length {A = Line}) (keep-same M h (linesIn ks) (together-off (n .move) g h ks a)))
+  count-joined : (g h : Test) (n : Node Pos) (b ks : Children Pos) → (HasMove (n .move) ks → ⊥) → countIn (joined (n .move) g h) (child n b ks) ≡ countAt g n b + countIn h ks
+  count-joined g h n b ks a =
+      let M = joined (n .move) g h in
+      count-child M n b ks ∙ cc (ap (λ (test : Test). countAt test n b) (joined-on (n .move) g h), ap (length {A = Line}) (keep-same M h (linesIn ks) (joined-off (n .move) g h ks a)))
 
 module _ (G : Game) (t : Bool) where
-  -- The node with a test of the open leaves at and below it, and a list of children
-  abbrev at : Test → Node (G .Pos) → Children (G .Pos) → Verdict
-  at test n b = verdictAt G (said t) test n (verdictsIn G (said t) test b)
-
-  abbrev verdicts : Test → Children (G .Pos) → List Verdict
-  verdicts test ks = verdictsIn G (said t) test ks
-
-  verdicts-together : (g h : Test) (n : Node (G .Pos)) (b ks : Children (G .Pos)) → (HasMove (n .move) ks → ⊥) → verdicts (together (n .move) g h) (child n b ks) ≡ at g n b ∷ verdicts h ks
+  verdicts-joined : (g h : Test) (n : Node (G .Pos)) (b ks : Children (G .Pos)) → (HasMove (n .move) ks → ⊥) → verdicts G t (joined (n .move) g h) (child n b ks) ≡ verdictBelow G t g n b ∷ verdicts G t h ks
   unfolding verdictsIn
-  verdicts-together g h n b ks a =
-      cc (ap (λ (test : Test). at test n b) (together-on (n .move) g h), same-in G (said t) (together (n .move) g h) h ks (together-off (n .move) g h ks a))
+  verdicts-joined g h n b ks a =
+      cc (ap (λ (test : Test). verdictBelow G t test n b) (joined-on (n .move) g h), same-in G (verdictFor t) (joined (n .move) g h) h ks (joined-off (n .move) g h ks a))
 
   -- OF A NODE: no set that makes it t has fewer members than its number towards t says, and a number below INFINITY is reached
   record NodeGot (n : Node (G .Pos)) (b : Children (G .Pos)) : Type 0 where
     test : Test
-    makes : at test n b ≡ said t
+    makes : verdictBelow G t test n b ≡ verdictFor t
     as-many : countAt test n b ≡ towards G t n
 
   record NodeLeast (n : Node (G .Pos)) (b : Children (G .Pos)) : Type 0 where
-    lower : (test : Test) → at test n b ≡ said t → towards G t n ≤ countAt test n b
+    lower : (test : Test) → verdictBelow G t test n b ≡ verdictFor t → towards G t n ≤ countAt test n b
     reached : towards G t n < INFINITY → NodeGot n b
 
   -- OF A LIST: the least delta where one child is enough, the sum of the phis where all are needed
   record Got (ask : (Verdict → Bool) → List Verdict → Bool) (ks : Children (G .Pos)) (k : ℕ) : Type 0 where
     test : Test
-    makes : ask (isSaid t) (verdicts test ks) ≡ true
+    makes : ask (comesTo t) (verdicts G t test ks) ≡ true
     as-many : countIn test ks ≡ k
 
   -- the side to move at each child
@@ -106,19 +100,19 @@ module _ (G : Game) (t : Bool) where
   Sided mine (child n b ks) = (G .mine (n .pos) ≡ mine) × Sided mine ks
 
   record ListLeast (ks : Children (G .Pos)) : Type 0 where
-    some-lower : Sided (not t) ks → (test : Test) → any (isSaid t) (verdicts test ks) ≡ true → leastDelta ks ≤ countIn test ks
+    some-lower : Sided (not t) ks → (test : Test) → any (comesTo t) (verdicts G t test ks) ≡ true → leastDelta ks ≤ countIn test ks
     some-reached : Sided (not t) ks → leastDelta ks < INFINITY → Got any ks (leastDelta ks)
-    all-lower : Sided t ks → (test : Test) → all (isSaid t) (verdicts test ks) ≡ true → sumPhi ks ≤ countIn test ks
+    all-lower : Sided t ks → (test : Test) → all (comesTo t) (verdicts G t test ks) ≡ true → sumPhi ks ≤ countIn test ks
     all-reached : Sided t ks → sumPhi ks < INFINITY → Got all ks (sumPhi ks)
 
   solved-least : (n : Node (G .Pos)) (b : Children (G .Pos)) → solved n ≡ true → ((n .phi ≡ 0) × (INFINITY ≤ n .delta)) ⊎ ((n .delta ≡ 0) × (INFINITY ≤ n .phi)) → NodeLeast n b
   solved-least n b e h = record {
-    lower = λ test q. omega (arith, verdict-zero G t n (sym (verdict-solved G (said t) test n _ e) ∙ q));
+    lower = λ test q. omega (arith, verdict-zero G t n (sym (verdict-solved G (verdictFor t) test n _ e) ∙ q));
     reached = λ l.
         let v = zero-verdict G t n h l in
         record {
           test = nothing;
-          makes = verdict-solved G (said t) nothing n _ e ∙ v;
+          makes = verdict-solved G (verdictFor t) nothing n _ e ∙ v;
           as-many = keep-none (linesAt n (linesIn b)) ∙ sym (verdict-zero G t n v);
         };
   }
@@ -133,10 +127,10 @@ module _ (G : Game) (t : Bool) where
   -- An open leaf is taken or not
   leaf-least : (n : Node (G .Pos)) (b : Children (G .Pos)) → solved n ≡ false → n .expanded ≡ false → n .phi ≡ 1 → n .delta ≡ 1 → NodeLeast n b
   leaf-least n b e x p d = record {
-    lower = λ test q. omega (arith, leaf-towards n p d, one test (leaf-taken t (test []) (sym (verdict-leaf G (said t) test n _ e x) ∙ q)));
+    lower = λ test q. omega (arith, leaf-towards n p d, one test (leaf-taken t (test []) (sym (verdict-leaf G (verdictFor t) test n _ e x) ∙ q)));
     reached = λ l. record {
       test = λ l. true;
-      makes = verdict-leaf G (said t) (λ l. true) n _ e x;
+      makes = verdict-leaf G (verdictFor t) (λ l. true) n _ e x;
       as-many = one (λ l. true) refl ∙ sym (leaf-towards n p d);
     };
   }
@@ -144,7 +138,7 @@ module _ (G : Game) (t : Bool) where
       one : (test : Test) → test [] ≡ true → countAt test n b ≡ 1
       one test q = ap (λ (ls : List Line). length (keep test ls)) (lines-leaf n (linesIn b) e x) ∙ rw q
 
-  -- An expanded unsolved node has what its list has
+  -- An expanded unsolved node, from its list of children
   inner-least : (L : Lawful G) (n : Node (G .Pos)) (b : Children (G .Pos)) → Inner G n b → sumPhi b ≤ u32-max → ListLeast b → NodeLeast n b
   inner-least L n b i small m = go (same-or-not (G .mine (n .pos)) t)
     where
@@ -156,14 +150,14 @@ module _ (G : Game) (t : Bool) where
       sided (child k c ks) h = (ap (G .mine) (h .1) ∙ L .turns (n .pos) (k .move) (h .0), sided ks (h .2))
 
       from-list : (ask : (Verdict → Bool) → List Verdict → Bool) (k : ℕ) → towards G t n ≡ k
-          → ((vs : List Verdict) → fromChildren (G .mine (n .pos)) vs ≡ said t → ask (isSaid t) vs ≡ true)
-          → ((vs : List Verdict) → ask (isSaid t) vs ≡ true → fromChildren (G .mine (n .pos)) vs ≡ said t)
-          → ((test : Test) → ask (isSaid t) (verdicts test b) ≡ true → k ≤ countIn test b) → (k < INFINITY → Got ask b k) → NodeLeast n b
+          → ((vs : List Verdict) → fromChildren (G .mine (n .pos)) vs ≡ verdictFor t → ask (comesTo t) vs ≡ true)
+          → ((vs : List Verdict) → ask (comesTo t) vs ≡ true → fromChildren (G .mine (n .pos)) vs ≡ verdictFor t)
+          → ((test : Test) → ask (comesTo t) (verdicts G t test b) ≡ true → k ≤ countIn test b) → (k < INFINITY → Got ask b k) → NodeLeast n b
       from-list ask k q needed enough lo re = record {
-        lower = λ test h. omega (arith, lo test (needed _ (sym (verdict-inner G (said t) test n _ e (i .opened)) ∙ h)), count test);
+        lower = λ test h. omega (arith, lo test (needed _ (sym (verdict-inner G (verdictFor t) test n _ e (i .opened)) ∙ h)), count test);
         reached = λ l.
             let g = re (omega arith) in
-            record { test = g .test; makes = verdict-inner G (said t) (g .test) n _ e (i .opened) ∙ enough _ (g .makes); as-many = count (g .test) ∙ g .as-many ∙ sym q };
+            record { test = g .test; makes = verdict-inner G (verdictFor t) (g .test) n _ e (i .opened) ∙ enough _ (g .makes); as-many = count (g .test) ∙ g .as-many ∙ sym q };
       }
         where
           count : (test : Test) → countAt test n b ≡ countIn test b
@@ -172,64 +166,69 @@ module _ (G : Game) (t : Bool) where
       own : G .mine (n .pos) ≡ t → NodeLeast n b
       own s =
           let d : Sided (not t) b = subst (λ (u : Bool). Sided (not u) b) s (sided b (i .by-moves)) in
-          from-list any (leastDelta b) (towards-own G t n s ∙ i .phi-is) (λ vs h. one-needed t vs (subst (λ (u : Bool). fromChildren u vs ≡ said t) s h))
-          (λ vs h. subst (λ (u : Bool). fromChildren u vs ≡ said t) (sym s) (one-enough t vs h)) (m .some-lower d) (m .some-reached d)
+          from-list any (leastDelta b) (towards-own G t n s ∙ i .phi-is) (λ vs h. one-needed t vs (subst (λ (u : Bool). fromChildren u vs ≡ verdictFor t) s h))
+          (λ vs h. subst (λ (u : Bool). fromChildren u vs ≡ verdictFor t) (sym s) (one-enough t vs h)) (m .some-lower d) (m .some-reached d)
 
       other : G .mine (n .pos) ≡ not t → NodeLeast n b
       other s =
           let d : Sided t b = subst (λ (u : Bool). Sided u b) (ap not s ∙ Bool·not-not t) (sided b (i .by-moves)) in
-          from-list all (sumPhi b) (towards-other G t n s ∙ i .delta-is ∙ omega arith) (λ vs h. all-needed t vs (subst (λ (u : Bool). fromChildren u vs ≡ said t) s h))
-          (λ vs h. subst (λ (u : Bool). fromChildren u vs ≡ said t) (sym s) (all-enough t vs h)) (m .all-lower d) (m .all-reached d)
+          from-list all (sumPhi b) (towards-other G t n s ∙ i .delta-is ∙ omega arith) (λ vs h. all-needed t vs (subst (λ (u : Bool). fromChildren u vs ≡ verdictFor t) s h))
+          (λ vs h. subst (λ (u : Bool). fromChildren u vs ≡ verdictFor t) (sym s) (all-enough t vs h)) (m .all-lower d) (m .all-reached d)
 
       go : (G .mine (n .pos) ≡ t) ⊎ (G .mine (n .pos) ≡ not t) → NodeLeast n b
       go (inl s) = own s
       go (inr s) = other s
 
+  -- Where one child is enough, the first of a list or one of the rest reaches it, by which has less
+  some-got : (n : Node (G .Pos)) (b ks : Children (G .Pos)) → (HasMove (n .move) ks → ⊥) → NodeLeast n b → ListLeast ks
+      → Sided (not t) (child n b ks) → min (n .delta) (leastDelta ks) < INFINITY → (u : Bool) → leb (n .delta) (leastDelta ks) ≡ u
+      → Got any (child n b ks) (min (n .delta) (leastDelta ks))
+  unfolding verdictsIn leastDelta
+  some-got n b ks a m r d l true e =
+      let q = leb-true (n .delta) (leastDelta ks) e in
+      let g = m .reached (omega (arith, towards-other G t n (d .0))) in
+      record {
+        test = joined (n .move) (g .test) nothing;
+        makes = ap (any (comesTo t)) (verdicts-joined (g .test) nothing n b ks a) ∙ rw (g .makes, comes-itself t);
+        as-many = omega (arith, count-joined (g .test) nothing n b ks a, g .as-many, keep-none (linesIn ks), towards-other G t n (d .0));
+      }
+  some-got n b ks a m r d l false e =
+      let q = leb-false (n .delta) (leastDelta ks) e in
+      let h = r .some-reached (d .1) (omega arith) in
+      record {
+        test = joined (n .move) nothing (h .test);
+        makes = ap (any (comesTo t)) (verdicts-joined nothing (h .test) n b ks a)
+            ∙ ap (λ (w : Bool). comesTo t (verdictBelow G t nothing n b) || w) (h .makes)
+            ∙ or-true (comesTo t (verdictBelow G t nothing n b));
+        as-many = omega (arith, count-joined nothing (h .test) n b ks a, h .as-many, keep-none (linesAt n (linesIn b)));
+      }
+
   -- The first of a list, and the rest
   child-least : (n : Node (G .Pos)) (b ks : Children (G .Pos)) → (HasMove (n .move) ks → ⊥) → NodeLeast n b → ListLeast ks → ListLeast (child n b ks)
   unfolding verdictsIn leastDelta sumPhi
   child-least n b ks a m r = record {
-    some-lower = λ d test h. some-low d test (one-true (isSaid t (first test)) (any (isSaid t) (verdicts test ks)) h);
-    some-reached = λ d l. some-got d l (leb (n .delta) (leastDelta ks)) refl;
+    some-lower = λ d test h. some-low d test (one-true (comesTo t (first test)) (any (comesTo t) (verdicts G t test ks)) h);
+    some-reached = λ d l. some-got n b ks a m r d l (leb (n .delta) (leastDelta ks)) refl;
     all-lower = λ d test h.
-        let q = both-true (isSaid t (first test)) (all (isSaid t) (verdicts test ks)) h in
-        omega (arith, m .lower (onward test (n .move)) (is-said t _ (q .0)), towards-own G t n (d .0), r .all-lower (d .1) test (q .1), count-child test n b ks);
+        let q = both-true (comesTo t (first test)) (all (comesTo t) (verdicts G t test ks)) h in
+        omega (arith, m .lower (onward test (n .move)) (comes-is t _ (q .0)), towards-own G t n (d .0), r .all-lower (d .1) test (q .1), count-child test n b ks);
     all-reached = λ d l.
         let g = m .reached (omega (arith, towards-own G t n (d .0))) in
         let h = r .all-reached (d .1) (omega arith) in
         record {
-          test = together (n .move) (g .test) (h .test);
-          makes = ap (all (isSaid t)) (verdicts-together (g .test) (h .test) n b ks a) ∙ rw (g .makes, said-is t, h .makes);
-          as-many = omega (arith, count-together (g .test) (h .test) n b ks a, g .as-many, h .as-many, towards-own G t n (d .0));
+          test = joined (n .move) (g .test) (h .test);
+          makes = ap (all (comesTo t)) (verdicts-joined (g .test) (h .test) n b ks a) ∙ rw (g .makes, comes-itself t, h .makes);
+          as-many = omega (arith, count-joined (g .test) (h .test) n b ks a, g .as-many, h .as-many, towards-own G t n (d .0));
         };
   }
     where
       first : Test → Verdict
-      first test = at (onward test (n .move)) n b
+      first test = verdictBelow G t (onward test (n .move)) n b
 
-      some-low : Sided (not t) (child n b ks) → (test : Test) → (isSaid t (first test) ≡ true) ⊎ (any (isSaid t) (verdicts test ks) ≡ true)
+      some-low : Sided (not t) (child n b ks) → (test : Test) → (comesTo t (first test) ≡ true) ⊎ (any (comesTo t) (verdicts G t test ks) ≡ true)
           → min (n .delta) (leastDelta ks) ≤ countIn test (child n b ks)
-      some-low d test (inl e) = omega (arith, m .lower (onward test (n .move)) (is-said t _ e), towards-other G t n (d .0), count-child test n b ks)
+      some-low d test (inl e) = omega (arith, m .lower (onward test (n .move)) (comes-is t _ e), towards-other G t n (d .0), count-child test n b ks)
       some-low d test (inr e) = omega (arith, r .some-lower (d .1) test e, count-child test n b ks)
-
-      some-got : Sided (not t) (child n b ks) → min (n .delta) (leastDelta ks) < INFINITY → (u : Bool) → leb (n .delta) (leastDelta ks) ≡ u
-          → Got any (child n b ks) (min (n .delta) (leastDelta ks))
-      some-got d l true e =
-          let q = leb-true (n .delta) (leastDelta ks) e in
-          let g = m .reached (omega (arith, towards-other G t n (d .0))) in
-          record {
-            test = together (n .move) (g .test) nothing;
-            makes = ap (any (isSaid t)) (verdicts-together (g .test) nothing n b ks a) ∙ rw (g .makes, said-is t);
-            as-many = omega (arith, count-together (g .test) nothing n b ks a, g .as-many, keep-none (linesIn ks), towards-other G t n (d .0));
-          }
-      some-got d l false e =
-          let q = leb-false (n .delta) (leastDelta ks) e in
-          let h = r .some-reached (d .1) (omega arith) in
-          record {
-            test = together (n .move) nothing (h .test);
-            makes = ap (any (isSaid t)) (verdicts-together nothing (h .test) n b ks a) ∙ ap (λ (w : Bool). isSaid t (at nothing n b) || w) (h .makes) ∙ or-true (isSaid t (at nothing n b));
-            as-many = omega (arith, count-together nothing (h .test) n b ks a, h .as-many, keep-none (linesAt n (linesIn b)));
-          }
 
 module _ (G : Game) (L : Lawful G) (t : Bool) where
   node-least : (n : Node (G .Pos)) (b : Children (G .Pos)) → NodeOk G n b → Good G b → size b ≤ pool-max → (NoMoveTwice b → ListLeast G t b) → NodeLeast G t n b
@@ -251,7 +250,7 @@ module _ (G : Game) (L : Lawful G) (t : Bool) where
       child-least G t n b ks (a .0) (node-least n b (g .0) (g .1) (omega arith) (λ w. list-least b (g .1) w (omega arith))) (list-least ks (g .2) (a .1) (omega arith))
 
   -- A tree whose root is not solved
-  pub tree-least : (n : Node (G .Pos)) (b : Children (G .Pos)) → NodeOk G n b → Good G b → size b < pool-max → solved n ≡ false → Smallest G (said t) (child n b none) (towards G t n)
+  pub tree-least : (n : Node (G .Pos)) (b : Children (G .Pos)) → NodeOk G n b → Good G b → size b < pool-max → solved n ≡ false → Smallest G (verdictFor t) (child n b none) (towards G t n)
   unfolding rootVerdict openLines size tally
   tree-least n b k g z e =
       let m = node-least n b k g (omega arith) (λ a. list-least b g a (omega arith)) in
@@ -264,7 +263,7 @@ module _ (G : Game) (L : Lawful G) (t : Bool) where
           none-twice = keep-distinct (h .test) lines distinct;
           makes = same (h .test) ∙ h .makes;
         };
-        size = h .as-many;
+        size-is = h .as-many;
         no-fewer = λ other s. omega (arith, m .lower (isIn other) (s .makes), no-fewer-than other lines distinct);
       }
     where
@@ -274,8 +273,8 @@ module _ (G : Game) (L : Lawful G) (t : Bool) where
       distinct : Distinct lines
       distinct = distinct-at G n b k (distinct-in G b g)
 
-      same : (test : Test) → at G t (isIn (keep test lines)) n b ≡ at G t test n b
-      same test = same-at G (said t) _ test n (linesIn b) _ _ (λ l i. as-test test lines l i) (λ f. same-in G (said t) _ test b f)
+      same : (test : Test) → verdictBelow G t (isIn (keep test lines)) n b ≡ verdictBelow G t test n b
+      same test = same-at G (verdictFor t) _ test n (linesIn b) _ _ (λ l i. as-test test lines l i) (λ f. same-in G (verdictFor t) _ test b f)
 
       below-infinity : Nums (openAt n (openLeaves b)) n → (0 < n .phi) × (0 < n .delta) → towards G t n < INFINITY
       below-infinity (nwon p d) u = absurd (omega (arith, u .0))

@@ -15,9 +15,9 @@ use Rattle.machine.specs.Runs.{solved-known}
 use Rattle.machine.specs.Reached.{Reached, PoolInRange, ends-reached, reached-ok, tree-root, tree-good, tree-size}
 use Rattle.machine.specs.Third.{root-ok}
 use Rattle.meaning.specs.Meaning.{Line, Settles, Smallest, Meaning}
-use Rattle.meaning.specs.Leaves.{after, LeavesNamed}
+use Rattle.meaning.specs.Leaves.{positionAfter, LeavesNamed}
 use Rattle.meaning.specs.Lines.{tree-named}
-use Rattle.meaning.specs.Verdicts.{said, towards}
+use Rattle.meaning.specs.Verdicts.{verdictFor, towards}
 use Rattle.meaning.specs.Values.{tree-value}
 use Rattle.meaning.specs.Smallest.{tree-least}
 
@@ -40,16 +40,16 @@ module _ (G : Game) (L : Lawful G) (P : Policy G) (Q : Sane G P) (S : Settings) 
   place : (s : State (G .Pos)) → Reached G P S p s → root s .pos ≡ p
   place s h = root-ok G L p s (reached-ok G L P Q S in-range p s h .tree-ok) .place
 
-  -- THEOREM: the lines of its open leaves
+  -- THEOREM: the lines of its tree name its open leaves
   pub leaves-named : (s : State (G .Pos)) → Reached G P S p s → LeavesNamed G (tree s) p
   leaves-named s h = let g = good s h in rw (tree-root s .1) (subst (LeavesNamed G (child (root s) (below s) none)) (place s h) (tree-named G (root s) (below s) (g .0) (g .1)))
 
-  -- THEOREM: a set that makes its root t, if the positions at its leaves turn out t
-  pub turns-out : (s : State (G .Pos)) → Reached G P S p s → (t : Bool) (set : List Line) → Settles G (said t) (tree s) set
-      → ((l : Line) → List·Memᴰ l set → value G (after G p l) ≡ t) → value G p ≡ t
+  -- THEOREM: if the positions at the leaves of a set that makes its root t have the value t, so has p
+  pub turns-out : (s : State (G .Pos)) → Reached G P S p s → (t : Bool) (set : List Line) → Settles G (verdictFor t) (tree s) set
+      → ((l : Line) → List·Memᴰ l set → value G (positionAfter G p l) ≡ t) → value G p ≡ t
   turns-out s h t set k v =
       let g = good s h in
-      subst (λ (q : G .Pos). ((l : Line) → List·Memᴰ l set → value G (after G q l) ≡ t) → value G q ≡ t) (place s h)
+      subst (λ (q : G .Pos). ((l : Line) → List·Memᴰ l set → value G (positionAfter G q l) ≡ t) → value G q ≡ t) (place s h)
       (tree-value G L t (root s) (below s) (g .0) (g .1) set (rw (tree-root s .1) at k)) v
 
   -- THEOREM: what the numbers of its root mean, while that is unsolved
@@ -57,7 +57,7 @@ module _ (G : Game) (L : Lawful G) (P : Policy G) (Q : Sane G P) (S : Settings) 
   unfolding towards
   root-meaning s h e = record { proof-is = least true; disproof-is = least false }
     where
-      least : (t : Bool) → Smallest G (said t) (tree s) (towards G t (root s))
+      least : (t : Bool) → Smallest G (verdictFor t) (tree s) (towards G t (root s))
       least t = let g = good s h in rw (tree-root s .1) (tree-least G L t (root s) (below s) (g .0) (g .1) (small s h) e)
 
   -- THEOREM: what the numbers of an Unknown mean

@@ -1,4 +1,5 @@
--- Three values towards one of them: what its children make of a node, what the numbers of a solved one say, and that the verdicts in a tree hang on its open leaves alone. Rests on Meaning.
+-- Laws of the three values, for True and False at once: what its children make of a node, what the numbers of a solved one say, and that the verdicts in a tree depend on its open
+-- leaves alone. Rests on Meaning, on the rules' laws of tests, and on Runs of the machine.
 use mathlib.Core.Path.{_≡_, refl, ap, sym, _∙_}
 use mathlib.Core.Logic.{_⊎_, inl, inr}
 use mathlib.Core.List.{List, [], _∷_, map, List·Memᴰ, List·Memᴰ·head, Memᴰ·map, Memᴰ·append-left, Memᴰ·append-right}
@@ -15,82 +16,82 @@ use Rattle.machine.specs.Runs.{Judged, jtrue, jfalse, junknown, judged}
 use Rattle.meaning.specs.Meaning.{Line, linesAt, linesIn, isTrue, isFalse, fromChildren, verdictAt, verdictsIn}
 
 -- True or False by a Boolean, and the test for it
-abbrev pub said : Bool → Verdict
-said true = True
-said false = False
+abbrev pub verdictFor : Bool → Verdict
+verdictFor true = True
+verdictFor false = False
 
-abbrev pub isSaid : Bool → Verdict → Bool
-isSaid true v = isTrue v
-isSaid false v = isFalse v
+abbrev pub comesTo : Bool → Verdict → Bool
+comesTo true v = isTrue v
+comesTo false v = isFalse v
 
-pub said-is : (t : Bool) → isSaid t (said t) ≡ true
+pub comes-itself : (t : Bool) → comesTo t (verdictFor t) ≡ true
 unfolding isTrue isFalse
-said-is true = refl
-said-is false = refl
+comes-itself true = refl
+comes-itself false = refl
 
-pub is-said : (t : Bool) (v : Verdict) → isSaid t v ≡ true → v ≡ said t
+pub comes-is : (t : Bool) (v : Verdict) → comesTo t v ≡ true → v ≡ verdictFor t
 unfolding isTrue isFalse
-is-said true True e = refl
-is-said true False e = absurd (true≢false (sym e))
-is-said true Unknown e = absurd (true≢false (sym e))
-is-said false True e = absurd (true≢false (sym e))
-is-said false False e = refl
-is-said false Unknown e = absurd (true≢false (sym e))
+comes-is true True e = refl
+comes-is true False e = absurd (true≢false (sym e))
+comes-is true Unknown e = absurd (true≢false (sym e))
+comes-is false True e = absurd (true≢false (sym e))
+comes-is false False e = refl
+comes-is false Unknown e = absurd (true≢false (sym e))
 
-other-not : (t : Bool) (v : Verdict) → isSaid t v ≡ true → isSaid (not t) v ≡ false
+other-not : (t : Bool) (v : Verdict) → comesTo t v ≡ true → comesTo (not t) v ≡ false
 unfolding isTrue isFalse
-other-not true v e = ap isFalse (is-said true v e)
-other-not false v e = ap isTrue (is-said false v e)
+other-not true v e = ap isFalse (comes-is true v e)
+other-not false v e = ap isTrue (comes-is false v e)
 
 -- The two are not each other, nor Unknown
-said-apart : (t : Bool) → said (not t) ≡ said t → ⊥
+other-apart : (t : Bool) → verdictFor (not t) ≡ verdictFor t → ⊥
 unfolding isTrue isFalse
-said-apart t e = true≢false (sym (said-is t) ∙ ap (isSaid t) (sym e) ∙ go t)
+other-apart t e = true≢false (sym (comes-itself t) ∙ ap (comesTo t) (sym e) ∙ go t)
   where
-    go : (u : Bool) → isSaid u (said (not u)) ≡ false
+    go : (u : Bool) → comesTo u (verdictFor (not u)) ≡ false
     go true = refl
     go false = refl
 
-unknown-apart : (t : Bool) → Unknown ≡ said t → ⊥
+unknown-apart : (t : Bool) → Unknown ≡ verdictFor t → ⊥
 unfolding isTrue isFalse
-unknown-apart t e = true≢false (sym (said-is t) ∙ ap (isSaid t) (sym e) ∙ go t)
+unknown-apart t e = true≢false (sym (comes-itself t) ∙ ap (comesTo t) (sym e) ∙ go t)
   where
-    go : (u : Bool) → isSaid u Unknown ≡ false
+    go : (u : Bool) → comesTo u Unknown ≡ false
     go true = refl
     go false = refl
 
-none-other : (t : Bool) (vs : List Verdict) → all (isSaid t) vs ≡ true → any (isSaid (not t)) vs ≡ false
+none-other : (t : Bool) (vs : List Verdict) → all (comesTo t) vs ≡ true → any (comesTo (not t)) vs ≡ false
 none-other t [] e = refl
-none-other t (v ∷ vs) e = let h = both-true (isSaid t v) (all (isSaid t) vs) e in rw (other-not t v (h .0), none-other t vs (h .1))
+none-other t (v ∷ vs) e = let h = both-true (comesTo t v) (all (comesTo t) vs) e in rw (other-not t v (h .0), none-other t vs (h .1))
 
--- WHAT THE CHILDREN MAKE OF A NODE. The side that wants t needs one child, the other side gives it by all
-from-children : (t : Bool) (vs : List Verdict) → fromChildren t vs ≡ cond (any (isSaid t) vs) (said t) (cond (all (isSaid (not t)) vs) (said (not t)) Unknown)
+-- WHAT THE CHILDREN MAKE OF A NODE. Where the side to move wants t, one child that is t is enough and needed; where it does not, all must be t
+from-children : (t : Bool) (vs : List Verdict) → fromChildren t vs ≡ cond (any (comesTo t) vs) (verdictFor t) (cond (all (comesTo (not t)) vs) (verdictFor (not t)) Unknown)
 unfolding fromChildren
 from-children true vs = refl
 from-children false vs = refl
 
-pub one-enough : (t : Bool) (vs : List Verdict) → any (isSaid t) vs ≡ true → fromChildren t vs ≡ said t
+pub one-enough : (t : Bool) (vs : List Verdict) → any (comesTo t) vs ≡ true → fromChildren t vs ≡ verdictFor t
 one-enough t vs e = from-children t vs ∙ rw e
 
-pub one-needed : (t : Bool) (vs : List Verdict) → fromChildren t vs ≡ said t → any (isSaid t) vs ≡ true
-one-needed t vs e = go (any (isSaid t) vs) (all (isSaid (not t)) vs) (sym (from-children t vs) ∙ e)
+pub one-needed : (t : Bool) (vs : List Verdict) → fromChildren t vs ≡ verdictFor t → any (comesTo t) vs ≡ true
+one-needed t vs e = go (any (comesTo t) vs) (all (comesTo (not t)) vs) (sym (from-children t vs) ∙ e)
   where
-    go : (s x : Bool) → cond s (said t) (cond x (said (not t)) Unknown) ≡ said t → s ≡ true
+    go : (s x : Bool) → cond s (verdictFor t) (cond x (verdictFor (not t)) Unknown) ≡ verdictFor t → s ≡ true
     go true x q = refl
-    go false true q = absurd (said-apart t q)
+    go false true q = absurd (other-apart t q)
     go false false q = absurd (unknown-apart t q)
 
-all-given : (t : Bool) (vs : List Verdict) → fromChildren (not t) vs ≡ cond (any (isSaid (not t)) vs) (said (not t)) (cond (all (isSaid t) vs) (said t) Unknown)
-all-given t vs = from-children (not t) vs ∙ ap (λ (u : Bool). cond (any (isSaid (not t)) vs) (said (not t)) (cond (all (isSaid u) vs) (said u) Unknown)) (Bool·not-not t)
+all-given : (t : Bool) (vs : List Verdict) → fromChildren (not t) vs ≡ cond (any (comesTo (not t)) vs) (verdictFor (not t)) (cond (all (comesTo t) vs) (verdictFor t) Unknown)
+all-given t vs = from-children (not t) vs ∙ ap (λ (u : Bool). cond (any (comesTo (not t)) vs) (verdictFor (not t)) (cond (all (comesTo u) vs) (verdictFor u) Unknown)) (Bool·not-not t)
 
-pub all-enough : (t : Bool) (vs : List Verdict) → all (isSaid t) vs ≡ true → fromChildren (not t) vs ≡ said t
+pub all-enough : (t : Bool) (vs : List Verdict) → all (comesTo t) vs ≡ true → fromChildren (not t) vs ≡ verdictFor t
 all-enough t vs e = all-given t vs ∙ rw (none-other t vs e, e)
 
-pub all-needed : (t : Bool) (vs : List Verdict) → fromChildren (not t) vs ≡ said t → all (isSaid t) vs ≡ true
-all-needed t vs e = go (any (isSaid (not t)) vs) (all (isSaid t) vs) (sym (all-given t vs) ∙ e)
+pub all-needed : (t : Bool) (vs : List Verdict) → fromChildren (not t) vs ≡ verdictFor t → all (comesTo t) vs ≡ true
+all-needed t vs e = go (any (comesTo (not t)) vs) (all (comesTo t) vs) (sym (all-given t vs) ∙ e)
   where
-    go : (s x : Bool) → cond s (said (not t)) (cond x (said t) Unknown) ≡ said t → x ≡ true
-    go true x q = absurd (said-apart t q)
+    go : (s x : Bool) → cond s (verdictFor (not t)) (cond x (verdictFor t) Unknown) ≡ verdictFor t → x ≡ true
+    go true x q = absurd (other-apart t q)
     go false true q = refl
     go false false q = absurd (unknown-apart t q)
 
@@ -131,15 +132,15 @@ module _ (G : Game) (t : Bool) (n : Node (G .Pos)) where
       go (inr e) = inr (towards-other e)
 
   -- THE NUMBERS OF A SOLVED NODE: its verdict is t where its number towards t is 0, and nowhere else
-  pub verdict-zero : verdictOf (proofOf G n) (disproofOf G n) ≡ said t → towards G t n ≡ 0
+  pub verdict-zero : verdictOf (proofOf G n) (disproofOf G n) ≡ verdictFor t → towards G t n ≡ 0
   unfolding towards
   verdict-zero e = go t e (judged (proofOf G n) (disproofOf G n))
     where
-      go : (u : Bool) {w : Verdict} → w ≡ said u → Judged w (proofOf G n) (disproofOf G n) → cond u (proofOf G n) (disproofOf G n) ≡ 0
+      go : (u : Bool) {w : Verdict} → w ≡ verdictFor u → Judged w (proofOf G n) (disproofOf G n) → cond u (proofOf G n) (disproofOf G n) ≡ 0
       go true q (jtrue v z) = z
-      go true q (jfalse v a z) = absurd (said-apart true (sym v ∙ q))
+      go true q (jfalse v a z) = absurd (other-apart true (sym v ∙ q))
       go true q (junknown v a b) = absurd (unknown-apart true (sym v ∙ q))
-      go false q (jtrue v z) = absurd (said-apart false (sym v ∙ q))
+      go false q (jtrue v z) = absurd (other-apart false (sym v ∙ q))
       go false q (jfalse v a z) = z
       go false q (junknown v a b) = absurd (unknown-apart false (sym v ∙ q))
 
@@ -150,18 +151,26 @@ module _ (G : Game) (t : Bool) (n : Node (G .Pos)) where
   solved-numbers false (inl h) = inr h
   solved-numbers false (inr h) = inl h
 
-  pub zero-verdict : ((n .phi ≡ 0) × (INFINITY ≤ n .delta)) ⊎ ((n .delta ≡ 0) × (INFINITY ≤ n .phi)) → towards G t n < INFINITY → verdictOf (proofOf G n) (disproofOf G n) ≡ said t
+  pub zero-verdict : ((n .phi ≡ 0) × (INFINITY ≤ n .delta)) ⊎ ((n .delta ≡ 0) × (INFINITY ≤ n .phi)) → towards G t n < INFINITY → verdictOf (proofOf G n) (disproofOf G n) ≡ verdictFor t
   unfolding towards proofOf disproofOf verdictOf
   zero-verdict h l = go t (proofOf G n) (disproofOf G n) (solved-numbers (G .mine (n .pos)) h) l
     where
-      go : (u : Bool) (p d : ℕ) → ((p ≡ 0) × (INFINITY ≤ d)) ⊎ ((d ≡ 0) × (INFINITY ≤ p)) → cond u p d < INFINITY → verdictOf p d ≡ said u
+      go : (u : Bool) (p d : ℕ) → ((p ≡ 0) × (INFINITY ≤ d)) ⊎ ((d ≡ 0) × (INFINITY ≤ p)) → cond u p d < INFINITY → verdictOf p d ≡ verdictFor u
       go true p d (inl z) k = rw (z .0)
       go true p d (inr z) k = absurd (omega (arith, z .1))
       go false p d (inl z) k = absurd (omega (arith, z .1))
       go false p d (inr z) k = rw (ne-eqb p 0 (λ e. omega (arith, z .1)), z .0)
 
--- THE VERDICTS IN A TREE, kind by kind. A leaf that comes to t is taken
-pub leaf-taken : (t taken : Bool) → cond taken (said t) Unknown ≡ said t → taken ≡ true
+-- THE VERDICTS IN A TREE, where the leaves that pass a test are taken as t: of a node, and of a list of children
+module _ (G : Game) (t : Bool) where
+  abbrev pub verdictBelow : (Line → Bool) → Node (G .Pos) → Children (G .Pos) → Verdict
+  verdictBelow test n b = verdictAt G (verdictFor t) test n (verdictsIn G (verdictFor t) test b)
+
+  abbrev pub verdicts : (Line → Bool) → Children (G .Pos) → List Verdict
+  verdicts test ks = verdictsIn G (verdictFor t) test ks
+
+-- kind by kind; a leaf that comes to t is taken
+pub leaf-taken : (t taken : Bool) → cond taken (verdictFor t) Unknown ≡ verdictFor t → taken ≡ true
 leaf-taken t true q = refl
 leaf-taken t false q = absurd (unknown-apart t q)
 
@@ -178,7 +187,7 @@ module _ (G : Game) (v : Verdict) where
   unfolding verdictAt
   verdict-leaf taken n vs e x = rw (e, x)
 
-  -- They hang on the open leaves alone
+  -- They depend on the open leaves alone
   pub same-at : (s t : Line → Bool) (n : Node (G .Pos)) (below : List Line) (vs ws : List Verdict) → ((l : Line) → List·Memᴰ l (linesAt n below) → s l ≡ t l)
       → (((l : Line) → List·Memᴰ l below → s l ≡ t l) → vs ≡ ws) → verdictAt G v s n vs ≡ verdictAt G v t n ws
   unfolding verdictAt linesAt

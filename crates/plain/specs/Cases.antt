@@ -58,7 +58,7 @@ starred = record {
 }
 
 -- E after two expansions, and with one node too few for the second.
-E-two : UnderEach (judgeWith 90 2) E (fields Unknown 1 81 90 0 0 0 2 1)
+pub E-two : UnderEach (judgeWith 90 2) E (fields Unknown 1 81 90 0 0 0 2 1)
 unfolding computedSearch
 E-two = (refl, refl, refl)
 

@@ -42,6 +42,18 @@ abbrev pub any {ℓ} : {A : Type ℓ} → (A → Bool) → List A → Bool
 any f [] = false
 any f (x ∷ xs) = f x || any f xs
 
+-- What of a list passes a test, in its order.
+abbrev pub keep {ℓ} : {A : Type ℓ} → (A → Bool) → List A → List A
+keep f [] = []
+keep f (x ∷ xs) = cond (f x) (x ∷ keep f xs) (keep f xs)
+
+-- Two lists have the same bytes.
+abbrev pub sameBytes : List ℕ → List ℕ → Bool
+sameBytes [] [] = true
+sameBytes [] (y ∷ ys) = false
+sameBytes (x ∷ xs) [] = false
+sameBytes (x ∷ xs) (y ∷ ys) = eqb x y && sameBytes xs ys
+
 -- The lines.
 abbrev pub lines : List (List ℕ)
 lines =
@@ -111,11 +123,6 @@ play p m =
       cells = cs;
     }
 
--- The legal moves, by board, then cell, ascending. A finished position has none.
-abbrev pub keep {ℓ} : {A : Type ℓ} → (A → Bool) → List A → List A
-keep f [] = []
-keep f (m ∷ ms) = cond (f m) (m ∷ keep f ms) (keep f ms)
-
 abbrev pub everyMove : List ℕ
 everyMove = answers (λ i. moveOf (i / 9) (i % 9)) 0 81
 
@@ -123,6 +130,7 @@ everyMove = answers (λ i. moveOf (i / 9) (i % 9)) 0 81
 abbrev pub playable : Position → List ℕ → ℕ → Bool
 playable p states m = eqb (code states (boardOf m)) 0 && leads (p .target) (boardOf m) && eqb (cellAt (p .cells) m) 0
 
+-- The legal moves, by board, then cell, ascending. A finished position has none.
 unfoldable pub legalMoves : Position → List ℕ
 legalMoves p =
     let states : List ℕ = boardStates (p .cells) in

@@ -1,4 +1,4 @@
--- Laws of tests: what a chain of conditions that gives 0 tells, all and any under a change, and what a test keeps of a list. Rests on Rules and the library's Booleans.
+-- Laws of tests: what a chain of conditions that gives 0 tells, all and any under a change, what a test keeps of a list, and lists with the same bytes. Rests on Rules and the library's Booleans.
 use mathlib.Core.Bool.{Bool, true, false, cond, not, _&&_, _||_, and-false, and-true, true≢false, false≢true}
 use mathlib.Core.Path.{_≡_, refl, sym, ap, _∙_}
 use mathlib.Core.List.{List, [], _∷_, List·Memᴰ, List·Memᴰ·head, List·Memᴰ·tail, List·Memᴰ·not-nil}
@@ -6,8 +6,10 @@ use mathlib.Core.Logic.{_⊎_, inl, inr}
 use Prim.Native.Nat.{ℕ, zero, suc, _<_, suc-le-suc}
 use native.Mathlib.Nat.{not-suc-le-zero, le-of-suc-le-suc}
 use native.Mathlib.Omega.{arith}
+use lib.Dec.{eqb}
 use lib.ListN.{getD, length, set}
-use Rattle.rules.specs.Rules.{all, any, keep}
+use borrow.Author.Tests.{eqb-true, eq-eqb}
+use Rattle.rules.specs.Rules.{all, any, keep, sameBytes}
 
 -- a chain of conditions gives 0: its first does not hold, and the rest gives 0
 pub passed : (t : Bool) (n r : ℕ) → cond t (suc n) r ≡ 0 → (t ≡ false) × (r ≡ 0)
@@ -109,3 +111,18 @@ module _ {A : Type 0} (f : A → Bool) where
       go : (t : Bool) → List·Memᴰ m (keep f l) → List·Memᴰ m (cond t (x ∷ keep f l) (keep f l))
       go true j = List·Memᴰ·tail j
       go false j = j
+
+-- the same bytes are equal lists, and back
+pub same-equal : (xs ys : List ℕ) → sameBytes xs ys ≡ true → xs ≡ ys
+same-equal [] [] h = refl
+same-equal [] (y ∷ ys) h = absurd (false≢true h)
+same-equal (x ∷ xs) [] h = absurd (false≢true h)
+same-equal (x ∷ xs) (y ∷ ys) h =
+    let p = both-true (eqb x y) (sameBytes xs ys) h in
+    let a : x ≡ y = eqb-true x y (p .0) in
+    let b : xs ≡ ys = same-equal xs ys (p .1) in
+    cc
+
+pub same-self : (xs : List ℕ) → sameBytes xs xs ≡ true
+same-self [] = refl
+same-self (x ∷ xs) = rw (eq-eqb x x refl) (same-self xs)

@@ -16,7 +16,7 @@ use Rattle.plain.specs.Cases as plain-cases
 use Rattle.plain.specs.Cases.{computedSearch, starred}
 use Rattle.calls.specs.Calls.{lastRule}
 use Rattle.searches.specs.Searches.{nodes, settings, searchRefusal, Answered, searchCall}
-use Rattle.searches.specs.SearchAnswers.{search-answered, answered, full-carries}
+use Rattle.searches.specs.SearchAnswers.{search-answered, answered, full-answered}
 use Rattle.searches.specs.TwoSearches.{third-condition}
 use Rattle.searches.specs.StepThree.{StepThree, searchForMoves, pool, judging}
 
@@ -54,6 +54,6 @@ step-three = record {
   enough = λ bytes words rule L r e. third-condition bytes rule L L words words r r e e .first-decided;
   W-for-moves = five-for-moves;
   search-as-before = λ bytes words rule L r e v. answered bytes words rule L r e .1 ∙ as-before rule (settings words L) bytes v;
-  first-as-before = λ bytes words L w r s e v. full-carries bytes words L w r s e .0 ∙ as-before 1 (settings words L) bytes v;
-  second-as-before = λ bytes words L w r s e v. full-carries bytes words L w r s e .1 ∙ as-before 2 (settings words L) bytes v;
+  first-as-before = λ bytes words L w r s e v. full-answered bytes words L w r s e .1 ∙ as-before 1 (settings words L) bytes v;
+  second-as-before = λ bytes words L w r s e v. full-answered bytes words L w r s e .2 ∙ as-before 2 (settings words L) bytes v;
 }

@@ -49,19 +49,13 @@ module _ (bytes : List ℕ) (words : ℕ) (L : Limits) where
   full-refused n e z = refused-by Turned _ n _ e z
 
   -- and back: it was not refused, and carries the machine's two results
-  pub full-accepted : (v : FullVerdict) (r s : Result) → fullCall bytes words L ≡ Full v r s → searchRefusal bytes (nodes words) 0 L ≡ 0
+  pub full-answered : (v : FullVerdict) (r s : Result) → fullCall bytes words L ≡ Full v r s
+      → (searchRefusal bytes (nodes words) 0 L ≡ 0) × (r ≡ plainSearch 1 (settings words L) bytes) × (s ≡ plainSearch 2 (settings words L) bytes)
   unfolding fullCall
-  full-accepted v r s e = go (searchRefusal bytes (nodes words) 0 L) e
+  full-answered v r s e = go (searchRefusal bytes (nodes words) 0 L) refl e
     where
-      go : (k : ℕ) → answerUnless k Turned (bothResults (plainSearch 1 (settings words L) bytes) (plainSearch 2 (settings words L) bytes)) ≡ Full v r s → k ≡ 0
-      go zero h = refl
-      go (suc k) h = let z : _≡_ {A = ℕ} 0 1 = cc in absurd (omega arith)
-
-  pub full-carries : (v : FullVerdict) (r s : Result) → fullCall bytes words L ≡ Full v r s → (r ≡ plainSearch 1 (settings words L) bytes) × (s ≡ plainSearch 2 (settings words L) bytes)
-  unfolding fullCall
-  full-carries v r s e = go (searchRefusal bytes (nodes words) 0 L) e
-    where
-      go : (k : ℕ) → answerUnless k Turned (bothResults (plainSearch 1 (settings words L) bytes) (plainSearch 2 (settings words L) bytes)) ≡ Full v r s
-          → (r ≡ plainSearch 1 (settings words L) bytes) × (s ≡ plainSearch 2 (settings words L) bytes)
-      go zero h = (cc, cc)
-      go (suc k) h = let z : _≡_ {A = ℕ} 0 1 = cc in absurd (omega arith)
+      go : (k : ℕ) → searchRefusal bytes (nodes words) 0 L ≡ k
+          → answerUnless k Turned (bothResults (plainSearch 1 (settings words L) bytes) (plainSearch 2 (settings words L) bytes)) ≡ Full v r s
+          → (searchRefusal bytes (nodes words) 0 L ≡ 0) × (r ≡ plainSearch 1 (settings words L) bytes) × (s ≡ plainSearch 2 (settings words L) bytes)
+      go zero t h = (t, cc, cc)
+      go (suc k) t h = let z : _≡_ {A = ℕ} 0 1 = cc in absurd (omega arith)

@@ -100,9 +100,9 @@ pub record Cases : Type 0 where
   -- a book of verdicts: the cases of crate book
   pub book : BookCases
   pub trainers : TrainerCases
-  -- which sets of open leaves the numbers of an Unknown are the sizes of: of toy trees, and of E after two expansions
+  -- which sets of open leaves the numbers of an Unknown are the sizes of: of toy trees, of A after five expansions and of E after two
   pub smallest-sets : MeaningCases
-  pub E-smallest-sets : RecordCases
+  pub record-smallest-sets : RecordCases
   -- eight games: the two passes, the checks and the call
   pub passes : PassesCases
   pub games-checks : ChecksCases
@@ -155,7 +155,7 @@ cases = record {
   book = book-cases;
   trainers = trainer-cases;
   smallest-sets = meaning-cases;
-  E-smallest-sets = record-cases;
+  record-smallest-sets = record-cases;
   passes = passes-cases;
   games-checks = checks-cases;
   games = games-cases;
