@@ -15,7 +15,8 @@ use Rattle.machine.specs.Numbers.{NodeOk, open-leaf, inner, won, lost, u
 use Rattle.machine.specs.Place.{pool-max, Above, roomAt, sizeAbove, sizes, sizesOf, Sane}
 use Rattle.machine.specs.Climb.{TreeOk}
 use Rattle.machine.specs.Rounds.{StateOk, start-ok, found-leaf, leaf-state, round-ok}
-use Rattle.machine.specs.Runs.{Judged, jtrue, jfalse, junknown, judged, verdict-unknown, unsolved-unknown, solved-known, run-solved, run-next, Course, at-end, lacking, stopped, onward, course, NoLess, monotone}
+use Rattle.machine.specs.Runs.{Judged, jtrue, jfalse, junknown, judged, verdict-unknown, unsolved-unknown, solved-known}
+use Rattle.machine.specs.Runs.{run-solved, run-next, Course, at-end, lacking, stopped, onward, course, NoLess, monotone}
 use Rattle.machine.specs.Reached.{PoolInRange, ends-reached, reached-ok}
 
 -- One search: a True or False is the value; Unknown exactly when neither proof nor disproof is 0; with pool, limit and budget at least N it is never Unknown

@@ -73,7 +73,8 @@ module _ {Pos : Type 0} where
       count-child M n b ks ∙ cc (ap (λ (test : Test). countAt test n b) (joined-on (n .move) g h), ap (length {A = Line}) (keep-same M h (linesIn ks) (joined-off (n .move) g h ks a)))
 
 module _ (G : Game) (t : Bool) where
-  verdicts-joined : (g h : Test) (n : Node (G .Pos)) (b ks : Children (G .Pos)) → (HasMove (n .move) ks → ⊥) → verdicts G t (joined (n .move) g h) (child n b ks) ≡ verdictBelow G t g n b ∷ verdicts G t h ks
+  verdicts-joined : (g h : Test) (n : Node (G .Pos)) (b ks : Children (G .Pos)) → (HasMove (n .move) ks → ⊥)
+      → verdicts G t (joined (n .move) g h) (child n b ks) ≡ verdictBelow G t g n b ∷ verdicts G t h ks
   unfolding verdictsIn
   verdicts-joined g h n b ks a =
       cc (ap (λ (test : Test). verdictBelow G t test n b) (joined-on (n .move) g h), same-in G (verdictFor t) (joined (n .move) g h) h ks (joined-off (n .move) g h ks a))

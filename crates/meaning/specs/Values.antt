@@ -69,7 +69,8 @@ module _ (G : Game) (L : Lawful G) (t : Bool) where
           let other : not (G .mine (n .pos)) ≡ t = ap not m ∙ Bool·not-not t in
           value-all G L (n .pos) (x .0) (x .1) (λ k j. c k (i .all-moves k j) ∙ sym other) ∙ other
 
-  node-value : (n : Node (G .Pos)) (b : Children (G .Pos)) (test : Line → Bool) → NodeOk G n b → Follows b → TurnOut test (n .pos) (linesAt n (linesIn b)) → verdictBelow G t test n b ≡ verdictFor t → value G (n .pos) ≡ t
+  node-value : (n : Node (G .Pos)) (b : Children (G .Pos)) (test : Line → Bool) → NodeOk G n b → Follows b → TurnOut test (n .pos) (linesAt n (linesIn b))
+      → verdictBelow G t test n b ≡ verdictFor t → value G (n .pos) ≡ t
   unfolding positionAfter
   node-value n b test (open-leaf o) f h q =
       let e = unsolved n (omega (arith, o .phi-is)) (omega (arith, o .delta-is)) in
@@ -82,7 +83,8 @@ module _ (G : Game) (L : Lawful G) (t : Bool) where
   unfolding verdictsIn linesIn positionAfter
   list-follows none g p test m h = (λ q. absurd (true≢false (sym q)), λ q k i. absurd i)
   list-follows (child n b ks) g p test m h =
-      let first : verdictBelow G t (λ l. test (n .move ∷ l)) n b ≡ verdictFor t → value G (G .play p (n .move)) ≡ t = λ q. sym (ap (value G) (m .1)) ∙ node-value n b _ (g .0) (list-follows b (g .1)) onward q in
+      let first : verdictBelow G t (λ l. test (n .move ∷ l)) n b ≡ verdictFor t → value G (G .play p (n .move)) ≡ t =
+      λ q. sym (ap (value G) (m .1)) ∙ node-value n b _ (g .0) (list-follows b (g .1)) onward q in
       let rest = list-follows ks (g .2) p test (m .2) (λ l i. h l (Memᴰ·append-right (map (λ (r : Line). n .move ∷ r) (linesAt n (linesIn b))) i)) in (
         λ q. one first (rest .0) (one-true _ _ q),
         λ q. let w = both-true _ _ q in each first (rest .1) (w .0) (w .1),
