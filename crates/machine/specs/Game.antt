@@ -1,5 +1,5 @@
 -- A game as the search sees it, the value of a position for the root's side, and N, the number of legal move sequences. Rests on nothing.
-use mathlib.Core.List.{List, [], _∷_, map, foldr}
+use mathlib.Core.List.{List, [], _∷_, map, foldr, List·Memᴰ}
 use mathlib.Core.Bool.{Bool, true, false, _||_, _&&_, cond}
 use Prim.Native.Nat.{ℕ, zero, suc, _+_}
 
@@ -24,6 +24,16 @@ valueFrom G p (v ∷ vs) = cond (G .mine p) (foldr _||_ false (v ∷ vs)) (foldr
 unfoldable pub value : (G : Game) → G .Pos → Bool  -- play is over when nothing is left
 value G p = backward G (valueFrom G) (G .left p) p
 
+-- A legal move sequence: a list of moves, each legal after those before it
+abbrev pub Legal : (G : Game) → G .Pos → List ℕ → Type 0
+Legal G p [] = Unit {0}
+Legal G p (m ∷ ms) = List·Memᴰ m (G .moves p) × Legal G (G .play p m) ms
+
 -- N of the third condition: the empty sequence, and those that begin with each legal move (Sequences.antt: it is their number)
 unfoldable pub sequences : (G : Game) → G .Pos → ℕ
 sequences G p = backward G (λ q ns. suc (foldr _+_ 0 ns)) (G .left p) p
+
+-- Nothing stands twice in a list
+abbrev pub Distinct : {A : Type 0} → List A → Type 0
+Distinct [] = Unit {0}
+Distinct (x ∷ xs) = (List·Memᴰ x xs → ⊥) × Distinct xs

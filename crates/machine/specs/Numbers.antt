@@ -7,6 +7,7 @@ use Prim.Native.Nat.{ℕ, zero, suc, _+_, _≤_, _<_, min}
 use native.Mathlib.Omega.{arith}
 use lib.Dec.{eqb·suc-zero}
 use Rattle.machine.specs.Game.{Game, value}
+unfoldable pub use Rattle.machine.specs.Tree.{tally, openAt, openLeaves}
 use Rattle.machine.specs.Tree.{INFINITY, u32-max, Node, bound, leaf, solved, Children, none, child, size, leastDelta, sumPhi}
 use Rattle.machine.specs.Value.{Lawful, value-final, value-some}
 
@@ -93,18 +94,6 @@ is-solved n = go (n .phi) (n .delta) refl refl
     go zero y e d = yes (rw e) (inl e)
     go (suc x) zero e d = yes (rw (e, d, eqb·suc-zero x)) (inr d)
     go (suc x) (suc y) e d = no (rw (e, d, eqb·suc-zero x, eqb·suc-zero y)) (omega arith) (omega arith)
-
--- Counts over a tree: f of a node and of the count below it
-unfoldable pub tally : {Pos : Type 0} → (Node Pos → ℕ → ℕ) → Children Pos → ℕ
-tally f none = 0
-tally f (child n b ks) = f n (tally f b) + tally f ks
-
--- The open leaves
-unfoldable pub openAt : {Pos : Type 0} → Node Pos → ℕ → ℕ
-openAt n below = cond (solved n) 0 (cond (n .expanded) below 1)
-
-abbrev pub openLeaves : {Pos : Type 0} → Children Pos → ℕ
-openLeaves ks = tally openAt ks
 
 pub unsolved : {Pos : Type 0} (n : Node Pos) → 0 < n .phi → 0 < n .delta → solved n ≡ false
 unsolved n a b = go (is-solved n)

@@ -6,6 +6,7 @@ use Prim.Native.Nat.{ℕ, zero, suc, _+_, _≤_, _<_}
 use native.Mathlib.Omega.{arith}
 use lib.ListN.{length}
 use Rattle.machine.specs.Game.{Game, sequences}
+pub use Rattle.machine.specs.Tree.{In, here, beneath, further}
 use Rattle.machine.specs.Tree.{Node, solved, Children, none, child, size, leastDelta, sumPhi, append}
 use Rattle.machine.specs.Machine.{Settings, Counts, counts, Ancestor, State, rootOf, root, treeOf, tree, start, Policy, toLeaf, short, round, result, run, ends, search}
 use Rattle.machine.specs.Value.{Lawful}
@@ -14,12 +15,6 @@ use Rattle.machine.specs.Place.{pool-max, size-append, good-append, inne
 use Rattle.machine.specs.Descent.{height, node-height, depth-left}
 use Rattle.machine.specs.Rounds.{StateOk, start-ok, found-leaf, leaf-state, round-ok}
 use Rattle.machine.specs.Runs.{run-solved, run-short, run-over, run-next, Course, at-end, lacking, stopped, onward, course}
-
--- A node of a tree, with its own children
-pub data In {Pos : Type 0} (n : Node Pos) (b : Children Pos) : Children Pos → Type 0 where
-  here : {ks : Children Pos} → In n b (child n b ks)
-  beneath : {m : Node Pos} {c ks : Children Pos} → In n b c → In n b (child m c ks)
-  further : {m : Node Pos} {c ks : Children Pos} → In n b ks → In n b (child m c ks)
 
 -- The states of a search between its steps: after the start, step 2 and step 5
 pub data Reached (G : Game) (P : Policy G) (S : Settings) (p : G .Pos) : State (G .Pos) → Type 0 where

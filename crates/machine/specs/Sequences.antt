@@ -6,13 +6,9 @@ use mathlib.Core.List.{List·Memᴰ·append-cases, Memᴰ·append-left, Memᴰ·
 use Prim.Native.Nat.{ℕ, zero, suc, _+_, _≤_}
 use native.Mathlib.Omega.{arith}
 use lib.ListN.{length, length-append, length-map}
-use Rattle.machine.specs.Game.{Game, backward, sequences}
-use Rattle.machine.specs.Value.{Distinct, Lawful, no-moves}
-
--- A legal move sequence: a list of moves, each legal after those before it
-abbrev pub Legal : (G : Game) → G .Pos → List ℕ → Type 0
-Legal G p [] = Unit {0}
-Legal G p (m ∷ ms) = List·Memᴰ m (G .moves p) × Legal G (G .play p m) ms
+pub use Rattle.machine.specs.Game.{Legal}
+use Rattle.machine.specs.Game.{Game, backward, Distinct, sequences}
+use Rattle.machine.specs.Value.{Lawful, no-moves}
 
 pub record Enumerates (G : Game) (p : G .Pos) (l : List (List ℕ)) : Type 0 where
   pub each : (ms : List ℕ) → Legal G p ms → List·Memᴰ ms l

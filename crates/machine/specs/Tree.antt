@@ -55,3 +55,21 @@ module _ {Pos : Type 0} where
   unfoldable pub append : Children Pos → Children Pos → Children Pos  -- the first list, then the second
   append none r = r
   append (child n b ks) r = child n b (append ks r)
+
+-- A node of a list of children, or of all below it, with its own children
+pub data In {Pos : Type 0} (n : Node Pos) (b : Children Pos) : Children Pos → Type 0 where
+  here : {ks : Children Pos} → In n b (child n b ks)
+  beneath : {m : Node Pos} {c ks : Children Pos} → In n b c → In n b (child m c ks)
+  further : {m : Node Pos} {c ks : Children Pos} → In n b ks → In n b (child m c ks)
+
+-- Counts over a tree: f of a node and of the count below it
+unfoldable pub tally : {Pos : Type 0} → (Node Pos → ℕ → ℕ) → Children Pos → ℕ
+tally f none = 0
+tally f (child n b ks) = f n (tally f b) + tally f ks
+
+-- How many open leaves there are: neither solved nor expanded
+unfoldable pub openAt : {Pos : Type 0} → Node Pos → ℕ → ℕ
+openAt n below = cond (solved n) 0 (cond (n .expanded) below 1)
+
+abbrev pub openLeaves : {Pos : Type 0} → Children Pos → ℕ
+openLeaves ks = tally openAt ks

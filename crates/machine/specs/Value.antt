@@ -4,12 +4,8 @@ use mathlib.Core.List.{List, [], _∷_, map, foldr, List·Memᴰ, List·Memᴰ·
 use mathlib.Core.Bool.{Bool, true, false, not, _&&_, _||_, cond, or-true, and-false}
 use Prim.Native.Nat.{ℕ, zero, suc, _+_, _≤_, _<_}
 use native.Mathlib.Omega.{arith}
+pub use Rattle.machine.specs.Game.{Distinct}
 use Rattle.machine.specs.Game.{Game, backward, valueFrom, value, sequences}
-
--- Nothing stands twice in a list
-abbrev pub Distinct : {A : Type 0} → List A → Type 0
-Distinct [] = Unit {0}
-Distinct (x ∷ xs) = (List·Memᴰ x xs → ⊥) × Distinct xs
 
 -- Asked of every value of Pos: play comes to an end, the sides take turns, and no legal move is listed twice
 pub record Lawful (G : Game) : Type 0 where

@@ -1,14 +1,10 @@
--- What the lines of open leaves name: positions, reached by legal moves. Definitions only. Rests on Meaning, and on Value, Sequences, Numbers and Reached of the machine.
+-- What the lines of open leaves name: positions, reached by legal moves. Definitions only. Rests on Meaning, and on Game and Tree of the machine.
 use mathlib.Core.Path.{_≡_}
 use mathlib.Core.List.{[], _∷_, List·Memᴰ}
 use mathlib.Core.Bool.{false}
 use lib.ListN.{length}
-use Rattle.machine.specs.Game.{Game}
-use Rattle.machine.specs.Tree.{Node, solved, Children}
-use Rattle.machine.specs.Value.{Distinct}
-use Rattle.machine.specs.Sequences.{Legal}
-use Rattle.machine.specs.Numbers.{openLeaves}
-use Rattle.machine.specs.Reached.{In}
+use Rattle.machine.specs.Game.{Game, Legal, Distinct}
+use Rattle.machine.specs.Tree.{Node, solved, Children, In, openLeaves}
 use Rattle.meaning.specs.Meaning.{Line, openLines}
 
 -- The position after a line

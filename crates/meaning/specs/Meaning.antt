@@ -1,16 +1,14 @@
 -- What proof and disproof of an Unknown mean: sets of open leaves of the machine's tree, and what the root comes to when they are all taken as True, or all as False.
--- Definitions only, in the field's terms: proof set and disproof set. Rests on Machine, on Value for Distinct,
--- and on the rules' tests of lists.
+-- Definitions only, in the field's terms: proof set and disproof set. Rests on Machine and on the rules' tests of lists.
 use mathlib.Core.Path.{_≡_}
 use mathlib.Core.List.{List, [], _∷_, _++_, map, List·Memᴰ}
 use mathlib.Core.Bool.{Bool, true, false, cond}
 use Prim.Native.Nat.{ℕ, _≤_}
 use lib.ListN.{length}
 use Rattle.rules.specs.Rules.{any, all, sameBytes}
-use Rattle.machine.specs.Game.{Game}
+use Rattle.machine.specs.Game.{Game, Distinct}
 use Rattle.machine.specs.Tree.{Node, solved, proofOf, disproofOf, Children, none, child}
 use Rattle.machine.specs.Machine.{Verdict, True, False, Unknown, verdictOf}
-use Rattle.machine.specs.Value.{Distinct}
 
 -- THE OPEN LEAVES: the nodes that are neither solved nor expanded. Each is named by its line of play, the moves that lead to it from the root, so a position that two lines
 -- lead to is two leaves
