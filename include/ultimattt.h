@@ -188,11 +188,12 @@ enum uttt_cause {
 /*
  * What the two numbers of a result mean. If the verdict is UTTT_UNKNOWN, the search has come to positions, after some
  * moves, that it had not looked into when it ended. proof 3: some three of these undecided positions, all turning out
- * True, would settle it as True; no two would. disproof 3: some three, all turning out False, would settle it as False; no
- * two would. True and False are said for the side to move in the record, of these positions too, whoever is to move
- * there. A position that two orders of moves lead to counts each time. Both numbers are then from 1 to 16,777,215. They
- * say how many positions would have to turn out so, and nothing of how likely it is that they do. If the verdict is
- * UTTT_TRUE or UTTT_FALSE, its own number is 0, and the other is at least UTTT_INFINITY and counts nothing.
+ * True, would settle it as True; no two would. disproof 3: some three, all turning out False, would settle it as
+ * False; no two would. True and False are said for the side to move in the record, of these positions too, whoever is
+ * to move there. A position that two orders of moves lead to counts each time. Both numbers are then from 1 to
+ * 16,777,215. They say how many positions would have to turn out so, and nothing of how likely it is that they do. If
+ * the verdict is UTTT_TRUE or UTTT_FALSE, its own number is 0, and the other is at least UTTT_INFINITY and counts
+ * nothing.
  */
 
 struct uttt_replay_answer {

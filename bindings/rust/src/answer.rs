@@ -75,10 +75,11 @@ impl fmt::Display for Cause {
 
 /// The result of a search. It is displayed as the program judge prints it: the nine fields, one space between.
 ///
-/// What proof and disproof mean in an Unknown: the search has come to positions, after some moves, that it had not looked
-/// into when it ended. Proof 3: some three of these undecided positions, all turning out True, would settle it as True; no
-/// two would. Disproof likewise with False. True and False are said for the side to move in the record, of these positions
-/// too. A position that two orders of moves lead to counts each time. The numbers say nothing of how likely it is.
+/// What proof and disproof mean in an Unknown: the search has come to positions, after some moves, that it had not
+/// looked into when it ended. Proof 3: some three of these undecided positions, all turning out True, would settle it
+/// as True; no two would. Disproof likewise with False. True and False are said for the side to move in the record,
+/// of these positions too. A position that two orders of moves lead to counts each time. The numbers say nothing of
+/// how likely it is.
 #[derive(Clone, Copy, Debug, PartialEq, Eq, Hash)]
 pub struct SearchResult {
     pub verdict: Verdict,
