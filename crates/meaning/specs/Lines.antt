@@ -45,7 +45,7 @@ module _ {Pos : Type 0} where
       go (inl j) h = let r = Memᴰ·of-map (λ (x : Line). n .move ∷ x) (linesAt n (linesIn b)) j in record { move = n .move; rest = r .0; is = r .2; has = inl refl }
       go (inr j) h = let r = h j in record { move = r .move; rest = r .rest; is = r .is; has = inr (r .has) }
 
-  -- They are as many as the open leaves that Numbers counts
+  -- They are as many as the open leaves
   pub lines-length : (ks : Children Pos) → length (linesIn ks) ≡ openLeaves ks
   unfolding linesIn linesAt tally openAt
   lines-length none = refl

@@ -44,7 +44,7 @@ E-with v sets = go (computedTree E-settings E)
     go : Children Position → List Verdict
     go t = map (λ set. rootVerdict (gameOf 0 (positionOf E)) v set t) sets
 
--- Lines of one move, of the first n in move order, last first; and those of the replies to 88, which sends O to its own board
+-- Lines of one move, of the first n in move order, last first; and those of the replies to 88, which sends O to board 8
 unfoldable pub firstMoves : ℕ → List Line
 firstMoves zero = []
 firstMoves (suc n) = (moveOf (n / 9) (n % 9) ∷ []) ∷ firstMoves n
