@@ -9,6 +9,7 @@ use Rattle.rules.specs.Record.{bitAt, positionOf, positionRefusal, refusal}
 use Rattle.rules.specs.Refusals.{firstRefusal}
 use Rattle.plain.specs.Cases.{E, W, D, starred}
 use Rattle.searches.specs.Searches.{Limits, searchRefusal}
+use Rattle.searches.specs.StayCases.{by-bits, staying}
 use Rattle.searches.specs.StepThree.{pool, judging}
 use Rattle.entries.specs.Entries.{holdsRule, holdsPair, find}
 use Rattle.entries.specs.declared.Caller.the-variants.{Arbiter}
@@ -90,11 +91,14 @@ pub record BookCases : Type 0 where
   pub rule-first : lookupCall Arbiter D 3 (bookOf (blank 23) 5) ≡ refused (bookOf (blank 23) 5) 10
   pub pool-first : addCall Arbiter D 4 1 judge (bookOf (blank 23) 5) ≡ refused (bookOf (blank 23) 5) 8
   pub book-then : addCall Arbiter D (pool 1) 1 judge (bookOf (blank 23) 0) ≡ refused (bookOf (blank 23) 0) 17
+  -- a margin that is none: before the book, and for a pair that is held too
+  pub margin-first : addCall Arbiter D (pool 1) 1 (staying 0 (by-bits 0x3F60000000000000)) (bookOf (blank 23) 0) ≡ refused (bookOf (blank 23) 0) 21
+  pub margin-held : addCall Arbiter D (pool 1) 1 (staying 0 (by-bits 0x3F60000000000000)) one ≡ refused one 21
   -- a list of calls, one of them refused
   pub list : afterCalls (Add Arbiter D (pool 3276) 1 judge ∷ Lookup Arbiter D 1 ∷ Add Arbiter D 4 2 judge ∷ Add Arbiter D (pool 3276) 2 judge ∷ []) none ≡ both
 
 pub book-cases : BookCases
-unfolding hasLine state board boardStates gameState bitAt positionOf positionRefusal refusal firstRefusal searchRefusal holdsRule holdsPair find lookupRefusal lookupCall addRefusal addCall
+unfolding hasLine state board boardStates gameState bitAt positionOf positionRefusal refusal firstRefusal searchRefusal holdsRule holdsPair find lookupRefusal lookupCall addRefusal addCall by-bits
 book-cases = record {
   D-1 = D-one;
   D-2 = D-two;
@@ -131,6 +135,8 @@ book-cases = record {
   rule-first = refl;
   pool-first = refl;
   book-then = refl;
+  margin-first = refl;
+  margin-held = refl;
   list = ap (λ (o : BookOutcome). afterCalls (Lookup Arbiter D 1 ∷ Add Arbiter D 4 2 judge ∷ Add Arbiter D (pool 3276) 2 judge ∷ []) (o .left)) D-one ∙ ap (λ (o : BookOutcome). o .left) D-two;
 }
   where

@@ -13,7 +13,7 @@ use Rattle.machine.specs.Tree.{Node, u32-max, none, size, leastDelta, sumPhi, s
 use Rattle.machine.specs.Machine.{State, state, renumber, store}
 use Rattle.machine.specs.Numbers.{open-of}
 use Rattle.plain.specs.Plain.{game}
-use Rattle.words.specs.Packed.{View, view, bit, packed, andIn, packed-read}
+use Rattle.words.specs.Packed.{View, view, bit, packed, andIn, packed-read, Bytes}
 use Rattle.words.specs.Words.{NONE, PHI, DELTA, PACKED, FIRST, word, setWord, Beyond, beyond-trans, only-beyond}
 use Rattle.words.specs.Words as words
 use Rattle.words.specs.Freeing.{Freeable}
@@ -33,7 +33,7 @@ flag-is : (b : Bool) → eqb (bit (not b)) 1 ≡ not b
 flag-is true = refl
 flag-is false = refl
 
-pub by-flag : (G : Game) (n : Node (G .Pos)) (x : ℕ) (and : Bool) → n .move < 256 → x ≡ packed (view G) n → and ≡ eqb (andIn x) 1 → (phi delta : ℕ) → phi ≡ n .phi → delta ≡ n .delta
+pub by-flag : (G : Game) (n : Node (G .Pos)) (x : ℕ) (and : Bool) → Bytes n → x ≡ packed (view G) n → and ≡ eqb (andIn x) 1 → (phi delta : ℕ) → phi ≡ n .phi → delta ≡ n .delta
     → (cond and delta phi ≡ proofOf G n) × (cond and phi delta ≡ disproofOf G n)
 unfolding proofOf disproofOf
 by-flag G n x and byte e f phi delta p d =

@@ -51,7 +51,7 @@ module _ (w : List ℕ) (t : Opened) (x : ℕ) (and : Bool) (m : Made) (g : Adda
       go true = refl
       go false = omega arith
 
-  pub open-added : (k : ℕ) (w′ : List ℕ) (a : AllocedNode) → k ≡ pack (verdictNumber Unknown) 0 (bit and) 0 x
+  pub open-added : (k : ℕ) (w′ : List ℕ) (a : AllocedNode) → k ≡ pack (verdictNumber Unknown) 0 (bit and) 0 x 255
       → Alloced w (t .head) (t .used) (add-asks w (counting t m) x Unknown and g) bounds k (t .last) w′ a
       → r .head .0 ≡ a .head .0 → r .used ≡ a .used → r .last .0 ≡ a .id .0 → Added (g .leaf) x (g .rest) w′ (counting r m)
   open-added k w′ a ek f ef eu el =

@@ -157,7 +157,7 @@ module _ (w : List ℕ) (m : Made) (x : ℕ) (v : Verdict) (and : Bool) (g : Add
   abbrev pub add-asks : Spare w (m .head .0) (m .used)
   add-asks = holding-asks (view G) w (g .leaf .path) (g .leaf .depth) (m .head .0) (m .used) (g .leaf .above) (g .leaf .node) none (g .progress .made) (m .last .0) (g .progress .held) one-free
 
-  module _ (bounds : Bounds) (k : ℕ) (w′ : List ℕ) (a : AllocedNode) (n : LeafBounds v and (bounds .phi) (bounds .delta)) (is-packed : k ≡ pack (verdictNumber v) 0 (bit and) 0 x)
+  module _ (bounds : Bounds) (k : ℕ) (w′ : List ℕ) (a : AllocedNode) (n : LeafBounds v and (bounds .phi) (bounds .delta)) (is-packed : k ≡ pack (verdictNumber v) 0 (bit and) 0 x 255)
       (f : Alloced w (m .head) (m .used) add-asks bounds k (m .last) w′ a) where
     numbers : Pair (bounds .phi) (bounds .delta) (new .phi) (new .delta)
     numbers = n (g .leaf .rule) (g .leaf .root) (play p x) x (g .value-is) (g .and-is)
@@ -166,14 +166,14 @@ module _ (w : List ℕ) (m : Made) (x : ℕ) (v : Verdict) (and : Bool) (g : Add
     unfolding packed leaf
     word-is =
         is-packed
-        ∙ ap (λ (u : Verdict). pack (verdictNumber u) 0 (bit and) 0 x) (g .value-is)
-        ∙ ap (λ (t : Bool). pack (verdictNumber (view G .value (play p x))) 0 (bit t) 0 x) (g .and-is)
+        ∙ ap (λ (u : Verdict). pack (verdictNumber u) 0 (bit and) 0 x 255) (g .value-is)
+        ∙ ap (λ (t : Bool). pack (verdictNumber (view G .value (play p x))) 0 (bit t) 0 x 255) (g .and-is)
 
     holds : Holding (view G) w′ (g .leaf .path) (g .leaf .depth) (a .head .0) (a .used) (g .leaf .above) (g .leaf .node) none (child new none (g .progress .made)) (a .id .0)
     unfolding leaf
     holds =
         holding-made (view G) w (g .leaf .path) (g .leaf .depth) (m .head .0) (m .used) (g .leaf .above) (g .leaf .node) none (g .progress .made) (m .last .0) (g .progress .held) one-free
-        (a .id .0) (a .head .0) (a .used) (f .number) w′ new (g .byte)
+        (a .id .0) (a .head .0) (a .used) (f .number) w′ new (g .byte, omega arith)
         (record {
           only = f .filled .only;
           phi-is = f .filled .phi-is ∙ numbers .phi-is;

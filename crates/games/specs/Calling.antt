@@ -104,6 +104,7 @@ module _ (bytes w shares : List â„•) (c : Common) (some : numberRefusal bytes â‰
           allowance-most = s .allowance-most;
           interval-some = s .interval-least;
           rule-few = omega (arith, s .rule-most);
+          stay-in-range = s .stay-in-range;
         };
         records = omega arith;
         loads = all-load bytes load;

@@ -20,6 +20,7 @@ use Rattle.resume.specs.Keeping.{Stopped}
 use Rattle.resume.specs.declared.Kept.{Kept}
 use Rattle.resume.specs.Lone.{lone, lone-bounded}
 use Rattle.resume.specs.Passing.{first-expanded}
+use Rattle.stay.specs.Margin.{stayOf}
 use Rattle.games_checks.specs.Checks.{recordAt}
 use Rattle.games_checks.specs.declared.Common.{Common}
 use Rattle.games.specs.Parts.{cut, next-part, cut-put, cut-before, drop-after}
@@ -28,7 +29,7 @@ use Rattle.games.specs.Playing.{settingsOf, gameOf, positionsOf, Shaped,
 module _ {shares : List ℕ} {words n size : ℕ} {c : Common} (g : Shaped shares words n size c) where
   -- each game expands no more than its budget
   pub games-bounded : (pos : ℕ → Position) (k : ℕ) → Bounded (gameOf pos shares size c k)
-  games-bounded pos k = lone-bounded (c .rule) (size / 5) (c .limit) (c .interval) (getD shares k 0) (pos k) (record { some = g .some; most = g .most })
+  games-bounded pos k = lone-bounded (c .rule) (size / 5) (c .limit) (c .interval) (stayOf (c .stay)) (getD shares k 0) (pos k) (record { some = g .some; most = g .most })
 
   -- part i of words as long
   module _ (w : List ℕ) (long : length w ≡ words) (i : ℕ) (l : i < n) where
@@ -48,13 +49,15 @@ module _ {shares : List ℕ} {words n size : ℕ} {c : Common} (g : Shaped share
       interval-some = g .interval-some;
       budget-most = omega (arith, ap (λ k. getD shares k 0) q, total-one (λ k. getD shares k 0) 0 n i l, g .shared, g .allowance-most);
       rule-few = g .rule-few;
+      stay-in-range = g .stay-in-range;
     }
 
     -- what a game expanded in the first pass, in whichever words of its part
     pub part-expanded : (pos : ℕ → Position) (v : List ℕ) (k : Kept) → length v ≡ length (cut (i * size) (i * size + size) w)
         → Stopped (pos i) (settingsOf c (getD shares i 0)) v k → first (gameOf pos shares size c i) .expanded ≡ k .running .prover .expanded
     part-expanded pos v k e h =
-        subst (λ m. first (lone (c .rule) m (c .limit) (c .interval) (getD shares i 0) (pos i)) .expanded ≡ k .running .prover .expanded) (ap (λ m. m / 5) (e ∙ part-long)) (first-expanded h 0)
+        subst (λ m. first (lone (c .rule) m (c .limit) (c .interval) (stayOf (c .stay)) (getD shares i 0) (pos i)) .expanded ≡ k .running .prover .expanded)
+        (ap (λ m. m / 5) (e ∙ part-long)) (first-expanded h 0)
 
 module _ {bytes w₀ shares : List ℕ} {n size : ℕ} {c : Common} (g : Playable bytes w₀ shares n size c) where
   -- the record of game i, as it is cut
@@ -165,6 +168,7 @@ first-done bytes w₀ shares n size c w kept u i l h =
           allowance-most = g .allowance-most;
           interval-some = g .interval-some;
           rule-few = g .rule-few;
+          stay-in-range = g .stay-in-range;
         };
         kept-long = h .kept-long;
         left-is = omega (arith, h .left, ap (λ k. spent (gameOf (positionsOf bytes) shares size c) 0 k) e);

@@ -18,11 +18,11 @@ use Rattle.games_checks.specs.Checks.{gamesMost, games, recordAt, numberRefusal
 abbrev pub partWords : (words n : ℕ) → ℕ
 partWords words n = nodes words / n * 5
 
--- Game i: its share, and what a lone search of its record answers with each budget, its part being the pool, and the rule, limit and interval common.
+-- Game i: its share, and what a lone search of its record answers with each budget, its part being the pool, and all other settings common.
 abbrev pub gameAt : (bytes : List ℕ) (words : ℕ) (shares : List ℕ) → Common → ℕ → OneGame
 gameAt bytes words shares C i = record {
   share = getD shares i 0;
-  search = λ budget. plainSearch (C .rule) (settings (partWords words (games bytes)) (limits (C .limit) budget (C .interval))) (recordAt bytes i);
+  search = λ budget. plainSearch (C .rule) (settings (partWords words (games bytes)) (limits (C .limit) budget (C .interval) (C .stay))) (recordAt bytes i);
 }
 
 -- What the call answers: 0 or the number of the refusal; the game that it names, or 0; how many games there are; eight results, zeros past the games.

@@ -29,7 +29,7 @@ spentBefore bytes shares C words o i = total (answers (λ k. resultOfGame o k .e
 
 -- A lone search's settings with a grant.
 abbrev pub granting : Common → ℕ → Limits
-granting C grant = limits (C .limit) grant (C .interval)
+granting C grant = limits (C .limit) grant (C .interval) (C .stay)
 
 -- A refusal's number and the index of the game that it names.
 pub record Named (bytes : List ℕ) (number index : ℕ) : Type 0 where
@@ -42,7 +42,7 @@ pub record Named (bytes : List ℕ) (number index : ℕ) : Type 0 where
   pub lowest : (j : ℕ) → j < index → refusalAt bytes j ≡ number → ⊥
 
 pub record GamesStatement (bytes shares : List ℕ) (C : Common) (before after : List ℕ) (o : GamesOutcome) : Type 0 where
-  -- Checks 1 and 20, then those of the records, then 8 of a part, 9 of the whole pool, 10 and 20: the number is that of the first that refuses, and 0 if none does.
+  -- Checks 1 and 20, then those of the records, then 8 of a part, 9 of the whole pool, 10, 21 and 20: the number is that of the first that refuses, and 0 if none does.
   pub checks : o .number
       ≡ firstRefusal (numberRefusal bytes ∷ earliest (refusals bytes) ∷ settingsRefusal (nodes (length before)) (games bytes) (sharesOf shares (games bytes)) C ∷ [])
   -- Up to eight games are judged together, 21 bytes a game.

@@ -13,6 +13,7 @@ use Rattle.pn.specs.declared.SearchResult.{SearchResult}
 use Rattle.resume.specs.Keeping.{Stopped}
 use Rattle.resume.specs.declared.Kept.{Kept}
 use Rattle.resume.specs.Lone.{lone}
+use Rattle.stay.specs.Margin.{stayOf, StayInRange}
 use Rattle.searches.specs.Searches.{budgetMost}
 use Rattle.games_checks.specs.Checks.{recordAt, refusalAt, sharesOf}
 use Rattle.games_checks.specs.declared.Common.{Common}
@@ -22,10 +23,10 @@ use Rattle.games.specs.declared.FirstPass.{FirstPass}
 
 -- the settings of a search with a budget; game k, of the position pos k, in a part of so many words
 abbrev pub settingsOf : Common → ℕ → Settings
-settingsOf c b = record { rule = c .rule; limit = c .limit; budget = b; interval = c .interval }
+settingsOf c b = record { rule = c .rule; limit = c .limit; budget = b; interval = c .interval; stay = c .stay }
 
 abbrev pub gameOf : (pos : ℕ → Position) (shares : List ℕ) (size : ℕ) → Common → ℕ → OneGame
-gameOf pos shares size c k = lone (c .rule) (size / 5) (c .limit) (c .interval) (getD shares k 0) (pos k)
+gameOf pos shares size c k = lone (c .rule) (size / 5) (c .limit) (c .interval) (stayOf (c .stay)) (getD shares k 0) (pos k)
 
 -- the positions of the records
 abbrev pub positionsOf : List ℕ → ℕ → Position
@@ -41,6 +42,7 @@ pub record Shaped (shares : List ℕ) (words n size : ℕ) (c : Common) : Type 0
   pub allowance-most : c .allowance ≤ budgetMost
   pub interval-some : 0 < c .interval
   pub rule-few : c .rule < 3
+  pub stay-in-range : StayInRange (c .stay)
 
 -- and n records that load
 pub record Playable (bytes words shares : List ℕ) (n size : ℕ) (c : Common) : Type 0 where

@@ -18,6 +18,7 @@ use Rattle.passes.specs.Passes.{OneGame, total, first, spent, unspentAt, result
 use Rattle.passes.specs.Laws.{Bounded, accounts, total-one, total-same, grant-least, unspent-is, grant-within, all-within, result-alike}
 use Rattle.resume.specs.Lone.{lone-bounded}
 use Rattle.calls.specs.Calls.{lastRule, answerUnless}
+use Rattle.stay.specs.Margin.{stayOf}
 use Rattle.searches.specs.Searches.{poolLeast, poolMost, intervalLeast, intervalMost, budgetMost, nodes, searchRefusal, Answered, searchCall}
 use Rattle.searches.specs.SearchAnswers.{search-answered}
 use Rattle.searches.specs.TwoSearches.{third-condition}
@@ -175,7 +176,7 @@ module _ (bytes shares : List ℕ) (C : Common) (w : List ℕ) where
     few = let k = counted bytes number-none in (k .some, k .few, omega (arith, k .whole, div-add-mod' (length bytes) 21))
 
     bounded : (k : ℕ) → Bounded (game k)
-    bounded k = lone-bounded (C .rule) (size / 5) (C .limit) (C .interval) (getD shares k 0) (positionOf (recordAt bytes k)) (record { some = part-least; most = part-most })
+    bounded k = lone-bounded (C .rule) (size / 5) (C .limit) (C .interval) (stayOf (C .stay)) (getD shares k 0) (positionOf (recordAt bytes k)) (record { some = part-least; most = part-most })
 
     result-is : (i : ℕ) → i < games bytes → resultOfGame o i ≡ resultAt game (C .allowance) (games bytes) i
     result-is i l =
@@ -229,6 +230,7 @@ module _ (bytes shares : List ℕ) (C : Common) (w : List ℕ) where
           le-ltb (C .interval) intervalLeast (fine .interval-least),
           le-ltb intervalMost (C .interval) (fine .interval-most),
           le-ltb budgetMost (grantOfGame bytes shares C (length w) i) (omega (arith, most, fine .allowance-most)),
+          fine .stay-in-range,
         )
 
     each : (i : ℕ) → i < games bytes

@@ -17,6 +17,7 @@ use Rattle.resume.specs.declared.Kept.{Kept}
 use Rattle.resume.specs.Lone.{lone}
 use Rattle.resume.specs.Passing.{Passable, Passes}
 use Rattle.resume.specs.declared.Turn.{Turn}
+use Rattle.stay.specs.Margin.{stayOf}
 use Rattle.games_checks.specs.declared.Common.{Common}
 use Rattle.games.specs.Games.{noResult}
 use Rattle.games.specs.Parts.{cut, next-part, cut-after, drop-after}
@@ -68,7 +69,7 @@ module _ {shares : List ℕ} {n size : ℕ} {c : Common} {kept : List Kept} {lef
       -- by the definition of the two passes
       module _ (pos : ℕ → Position) (q : Halfway pos shares n size c w₀ kept left) where
         abbrev with-nodes : ℕ → OneGame
-        with-nodes m = lone (c .rule) m (c .limit) (c .interval) (getD shares i 0) (pos i)
+        with-nodes m = lone (c .rule) m (c .limit) (c .interval) (stayOf (c .stay)) (getD shares i 0) (pos i)
 
         here : (resultOf (t .result) ≡ gameOf pos shares size c i .search (grantWith (gameOf pos shares size c i) u)) × (t .unspent ≡ unspentAfter (gameOf pos shares size c i) u)
         here =

@@ -10,7 +10,7 @@ ghost use Rattle.games_checks.specs.Common.{commonOf};
 ghost use Rattle.games.specs.Games.{noResult, refused, gamesCall, PoolAfterGames};
 ghost use Rattle.games.specs.GamesStatement.{GamesStatement};
 ghost use Rattle.games.specs.Answers.{outcomeOf};
-ghost use Rattle.games.specs.Playing.{Playable, FirstPassed, Halfway, SecondPassed};
+ghost use Rattle.games.specs.Playing.{settingsOf, Playable, FirstPassed, Halfway, SecondPassed};
 use games_checks::Common;
 use games_checks::MOST_GAMES;
 use pn::SearchResult;
@@ -21,6 +21,20 @@ use resume::Kept;
 
 // The words of a node.
 const NODE: usize = 5;
+
+// A search's settings: the common ones, with a budget.
+fn settings_of(c: Common, budget: u64) -> Settings
+    ensures { λ r. ⌜ r ≡ settingsOf c budget ⌝ }
+{
+    let stay = c.stay;
+    Settings {
+        rule: c.rule,
+        limit: c.limit,
+        budget,
+        interval: c.interval,
+        stay,
+    }
+}
 
 // The games after the first pass, and what is unspent.
 pub struct FirstPass {
@@ -51,12 +65,7 @@ fn first_pass(
         let root = loaded.game;
         let a = i * size;
         let e = a + size;
-        let s = Settings {
-            rule: c.rule,
-            limit: c.limit,
-            budget: shares[i],
-            interval: c.interval,
-        };
+        let s = settings_of(c, shares[i]);
         let k = resume::first(&mut words[a..e], root, s);
         let x = k.running;
         let p = x.prover;
@@ -104,12 +113,7 @@ fn second_pass(
     while i < n {
         let a = i * size;
         let e = a + size;
-        let s = Settings {
-            rule: c.rule,
-            limit: c.limit,
-            budget: shares[i],
-            interval: c.interval,
-        };
+        let s = settings_of(c, shares[i]);
         let k = kept[i];
         let turn = resume::second(&mut words[a..e], k, s, unspent);
         let r = turn.result;

@@ -3,11 +3,13 @@ use mathlib.Core.Path.{_≡_, refl}
 use mathlib.Core.List.{List, [], _∷_, _++_}
 use Prim.Native.Nat.{ℕ}
 use lib.ListN.{replicate, take}
+use lib.Ieee.{binary64, odd, units, ofFields, ofBits}
 use Rattle.rules.specs.Rules.{hasLine, state, board, boardStates, gameState}
 use Rattle.rules.specs.Record.{bitAt, positionOf, positionRefusal, refusal}
 use Rattle.rules.specs.Refusals.{firstRefusal}
 use Rattle.rules.specs.Examples.{record21, E, W, D}
 use Rattle.passes.specs.Passes.{total}
+use Rattle.stay.specs.declared.Stay.the-variants.{Off, Margin}
 use Rattle.games_checks.specs.Checks.{numberRefusal, refusals, earlier, earliest, lowest, common, sharesOf, settingsRefusal}
 
 -- E with its last bit set, which check 2 refuses; a lone X with X to move, which 3 does; a board with a line of each side, which 4 does
@@ -29,7 +31,11 @@ abbrev shares : List ℕ
 shares = 5 ∷ 6 ∷ 7 ∷ 18446744073709551615 ∷ 0 ∷ 0 ∷ 0 ∷ 1000000000001 ∷ []
 
 abbrev settings : (nodes n rule allowance interval : ℕ) → ℕ
-settings nodes n rule allowance interval = settingsRefusal nodes n (sharesOf shares n) (common rule 0 allowance interval)
+settings nodes n rule allowance interval = settingsRefusal nodes n (sharesOf shares n) (common rule 0 allowance interval Off)
+
+-- And of a margin given by its bits, with two games in two nodes
+abbrev staying : (allowance interval bits : ℕ) → ℕ
+staying allowance interval bits = settingsRefusal 2 2 (sharesOf shares 2) (common 1 0 allowance interval (Margin (ofBits binary64 bits)))
 
 -- Each field is a case.
 pub record ChecksCases : Type 0 where
@@ -66,9 +72,14 @@ pub record ChecksCases : Type 0 where
   -- 9 before 10, and 10 before 20
   pub pool-first : settings 16777217 3 3 0 0 ≡ 9
   pub range-first : settings 3 3 3 0 1 ≡ 10
+  -- margins 1/4 and 1/512; 10 before 21, and 21 before 20
+  pub margin-quarter : staying 11 1 0x3FD0000000000000 ≡ 0
+  pub margin-half-step : staying 11 1 0x3F60000000000000 ≡ 21
+  pub range-before-margin : staying 11 0 0x3F60000000000000 ≡ 10
+  pub margin-before-sum : staying 10 1 0x3F60000000000000 ≡ 21
 
 pub checks-cases : ChecksCases
-unfolding hasLine state board boardStates gameState bitAt positionOf positionRefusal refusal firstRefusal total numberRefusal earlier earliest lowest settingsRefusal
+unfolding hasLine state board boardStates gameState bitAt positionOf positionRefusal refusal firstRefusal total numberRefusal earlier earliest lowest settingsRefusal odd units ofFields ofBits
 checks-cases = record {
   empty = refl;
   one = refl;
@@ -97,4 +108,8 @@ checks-cases = record {
   sum-above = refl;
   pool-first = refl;
   range-first = refl;
+  margin-quarter = refl;
+  margin-half-step = refl;
+  range-before-margin = refl;
+  margin-before-sum = refl;
 }

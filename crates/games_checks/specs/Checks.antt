@@ -9,6 +9,8 @@ use Rattle.rules.specs.Rules.{answers, any}
 use Rattle.rules.specs.Record.{refusal}
 use Rattle.rules.specs.Refusals.{refuses, firstRefusal}
 use Rattle.passes.specs.Passes.{total}
+use Rattle.stay.specs.declared.Stay.{Stay}
+use Rattle.stay.specs.Margin.{stayInRange}
 use Rattle.calls.specs.Calls.{lastRule}
 use Rattle.searches.specs.Searches.{poolLeast, poolMost, intervalLeast, intervalMost, budgetMost}
 
@@ -58,16 +60,17 @@ lowest number (n ∷ ns) = cond (eqb n number) 0 (suc (lowest number ns))
 
 -- What is common to all games, beside the pool.
 abbrev pub Common : Type 0
-Common = record { rule : ℕ; limit : ℕ; allowance : ℕ; interval : ℕ }
+Common = record { rule : ℕ; limit : ℕ; allowance : ℕ; interval : ℕ; stay : Stay }
 
-abbrev pub common : (rule limit allowance interval : ℕ) → Common
-common rule limit allowance interval = record { rule = rule; limit = limit; allowance = allowance; interval = interval }
+abbrev pub common : (rule limit allowance interval : ℕ) → Stay → Common
+common rule limit allowance interval stay = record { rule = rule; limit = limit; allowance = allowance; interval = interval; stay = stay }
 
 -- The shares of n games; those past the last game are not read.
 abbrev pub sharesOf : List ℕ → (n : ℕ) → List ℕ
 sharesOf shares n = answers (λ i. getD shares i 0) 0 n
 
--- Check 8 of a part of the pool, 9 of the whole; 10 of the rule, the interval, the games' shares and the allowance; 20, the shares sum above the allowance.
+-- Check 8 of a part of the pool, 9 of the whole; 10 of the rule, the interval, the games' shares and the allowance; 21 of the margin; 20, the shares sum above
+-- the allowance.
 unfoldable pub settingsRefusal : (capacity n : ℕ) (shares : List ℕ) → Common → ℕ
 settingsRefusal capacity n shares C =
     firstRefusal (
@@ -78,6 +81,7 @@ settingsRefusal capacity n shares C =
     ∷ refuses 10 (ltb intervalMost (C .interval))
     ∷ refuses 10 (any (ltb budgetMost) shares)
     ∷ refuses 10 (ltb budgetMost (C .allowance))
+    ∷ refuses 21 (not (stayInRange (C .stay)))
     ∷ refuses 20 (ltb (C .allowance) (total shares))
     ∷ []
     )

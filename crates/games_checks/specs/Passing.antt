@@ -1,6 +1,6 @@
 -- The checks with the code's sum, and what they tell where they refuse nothing. Rests on Checks and Sums.
 use mathlib.Core.Path.{_≡_, refl, sym}
-use mathlib.Core.Bool.{Bool, true, false}
+use mathlib.Core.Bool.{Bool, true, false, not}
 use mathlib.Core.List.{List, [], _∷_}
 use Prim.Native.Nat.{ℕ, zero, suc, _/_, _%_, _≤_}
 use borrow.Author.Tests.{eqb-true}
@@ -10,6 +10,7 @@ use Rattle.rules.specs.Rules.{any}
 use Rattle.rules.specs.Refusals.{refuses, firstRefusal}
 use Rattle.rules.specs.RefusalLaws.{none-refuses, passes-need, passes-check}
 use Rattle.passes.specs.Passes.{total}
+use Rattle.stay.specs.Margin.{stayInRange, StayInRange}
 use Rattle.calls.specs.Calls.{lastRule}
 use Rattle.calls.specs.Refusing.{passes-test}
 use Rattle.searches.specs.Searches.{poolLeast, poolMost, intervalLeast, intervalMost, budgetMost}
@@ -32,6 +33,7 @@ pub settings-refuse : (capacity n : ℕ) (shares : List ℕ) (C : Common) (above
     ∷ refuses 10 (ltb intervalMost (C .interval))
     ∷ refuses 10 above
     ∷ refuses 10 (ltb budgetMost (C .allowance))
+    ∷ refuses 21 (not (stayInRange (C .stay)))
     ∷ refuses 20 (ltb (C .allowance) sum)
     ∷ []
     ) ≡ settingsRefusal capacity n shares C
@@ -40,8 +42,9 @@ settings-refuse capacity n shares C above sum h =
     same-first _ _ _ (same-first _ _ _ (same-first _ _ _ (same-first _ _ _ (same-first _ _ _ (go above (h .above-is) (h .sum-is))))))
   where
     go : (b : Bool) → b ≡ any (ltb budgetMost) shares → (b ≡ false → sum ≡ total shares)
-        → firstRefusal (refuses 10 b ∷ refuses 10 (ltb budgetMost (C .allowance)) ∷ refuses 20 (ltb (C .allowance) sum) ∷ [])
-        ≡ firstRefusal (refuses 10 (any (ltb budgetMost) shares) ∷ refuses 10 (ltb budgetMost (C .allowance)) ∷ refuses 20 (ltb (C .allowance) (total shares)) ∷ [])
+        → let margin = refuses 21 (not (stayInRange (C .stay))) in
+        firstRefusal (refuses 10 b ∷ refuses 10 (ltb budgetMost (C .allowance)) ∷ margin ∷ refuses 20 (ltb (C .allowance) sum) ∷ [])
+        ≡ firstRefusal (refuses 10 (any (ltb budgetMost) shares) ∷ refuses 10 (ltb budgetMost (C .allowance)) ∷ margin ∷ refuses 20 (ltb (C .allowance) (total shares)) ∷ [])
     go true e s = rw (sym e) (unfold firstRefusal in refl)
     go false e s = rw (sym e, s refl)
 
@@ -67,6 +70,7 @@ pub record Settled (capacity n : ℕ) (shares : List ℕ) (C : Common) : Type 0 
   pub interval-most : C .interval ≤ intervalMost
   pub shares-within : any (ltb budgetMost) shares ≡ false
   pub allowance-most : C .allowance ≤ budgetMost
+  pub stay-in-range : StayInRange (C .stay)
   pub shared : total shares ≤ C .allowance
 
 pub settled : (capacity n : ℕ) (shares : List ℕ) (C : Common) → settingsRefusal capacity n shares C ≡ 0 → Settled capacity n shares C
@@ -79,7 +83,8 @@ settled capacity n shares C e =
     let most = passes-test 9 _ _ _ (least .1) in
     let each = none-refuses _ _ (most .1) in
     let allowance = passes-test 9 _ _ _ (each .1) in
-    let sum = passes-test 19 _ _ _ (allowance .1) in
+    let margin = none-refuses _ _ (allowance .1) in
+    let sum = passes-test 19 _ _ _ (margin .1) in
     record {
       part-some = part .0;
       pool-most = pool .0;
@@ -88,5 +93,6 @@ settled capacity n shares C e =
       interval-most = most .0;
       shares-within = passes-check 9 _ (each .0);
       allowance-most = allowance .0;
+      stay-in-range = passes-need 20 _ (margin .0);
       shared = sum .0;
     }

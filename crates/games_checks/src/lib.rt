@@ -17,6 +17,7 @@ use searches::LEAST_NODES;
 use searches::MOST_BUDGET;
 use searches::MOST_INTERVAL;
 use searches::MOST_NODES;
+use stay::Stay;
 
 // How many games there may be.
 pub const LEAST_GAMES: usize = 1;
@@ -29,6 +30,7 @@ pub struct Common {
     pub limit: u64,
     pub allowance: u64,
     pub interval: u64,
+    pub stay: Stay,
 }
 
 // Checks 1 and 20: the bytes are no whole number of records; no game, or more than eight. The number of the first that refuses, or 0.
@@ -131,12 +133,13 @@ fn summed(shares: &[u64; MOST_GAMES], n: usize) -> Sum
     s
 }
 
-// Checks 8 of a part, 9 of the whole pool, 10 and 20, of a pool with so many nodes and n games: the number of the first that refuses, or 0.
+// Checks 8 of a part, 9 of the whole pool, 10, 21 and 20, of a pool with so many nodes and n games: the number of the first that refuses, or 0.
 pub fn check_settings(nodes: usize, shares: &[u64; MOST_GAMES], n: usize, c: Common) -> u8
     requires { ⌜ (0 < n) × (n ≤ 8) ⌝ }
     ensures { λ r. ⌜ r ≡ settingsRefusal nodes n (sharesOf (now (shares .entry)) n) (commonOf c) ⌝ }
 {
     let s = summed(shares, n);
+    let stay = c.stay;
     let checks = [
         refusals::refuses(8, nodes / n < LEAST_NODES),
         refusals::refuses(9, nodes > MOST_NODES),
@@ -145,6 +148,7 @@ pub fn check_settings(nodes: usize, shares: &[u64; MOST_GAMES], n: usize, c: Com
         refusals::refuses(10, c.interval > MOST_INTERVAL),
         refusals::refuses(10, s.above),
         refusals::refuses(10, c.allowance > MOST_BUDGET),
+        refusals::refuses(21, !stay::in_range(stay)),
         refusals::refuses(20, s.total > c.allowance),
     ];
     refusals::first(&checks)

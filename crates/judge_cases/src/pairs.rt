@@ -6,6 +6,7 @@ ghost use Prim.Native.Nat.{_≤_};
 use libc::STDOUT_FILENO;
 use searches::Outcome;
 use searches::SearchLimits;
+use stay::Stay;
 
 // The most words that a search is lent: 3,276 nodes.
 const WORDS: usize = 16380;
@@ -38,6 +39,7 @@ fn limits(g: Search) -> SearchLimits {
         limit: g.limit,
         budget: g.budget,
         interval: g.interval,
+        stay: Stay::Off,
     }
 }
 

@@ -6,7 +6,7 @@ use Prim.Native.Nat.{ℕ, zero, suc, _-_}
 use lib.ListN.{getD}
 use Rattle.machine.specs.Game.{Game, backward, valueFrom, value, sequences}
 use Rattle.machine.specs.Tree.{Node, bound, leaf, none, child, sumPhi}
-use Rattle.machine.specs.Machine.{Settings, renumber, True, False, Unknown, Result, fields, search}
+use Rattle.machine.specs.Machine.{off, Settings, renumber, True, False, Unknown, Result, fields, search}
 use Rattle.machine.specs.Needs.{askingForMoves}
 use Rattle.machine.specs.Compute.{computed, settings}
 
@@ -58,7 +58,7 @@ unfolding computed
 last-short = refl
 
 -- A step 3 that asks for a node for each legal move: with a pool of three it stops, though one child would be made
-asked-for-moves : search (three (true ∷ true ∷ true ∷ [])) (askingForMoves (three (true ∷ true ∷ true ∷ []))) (settings 3 1000 1000 10) (record { at = 0; x = true }) ≡ fields Unknown 1 1 1 0 0 0 0 2
+asked-for-moves : search (three (true ∷ true ∷ true ∷ [])) (askingForMoves (three (true ∷ true ∷ true ∷ [])) off) (settings 3 1000 1000 10) (record { at = 0; x = true }) ≡ fields Unknown 1 1 1 0 0 0 0 2
 unfolding computed askingForMoves
 asked-for-moves = refl
 

@@ -108,7 +108,7 @@ module _ (G : Game) (c : Counts) (n : Node (G .Pos)) (ks : Children (G .Pos)) wh
 module _ (G : Game) (L : Lawful G) (r : G .Pos) where
   -- The node with the numbers x and y, where its children give them and neither is 0
   worked-out : (x y : ℕ) (up : List (Ancestor (G .Pos))) (n : Node (G .Pos)) (ks : Children (G .Pos)) → Climbing G r up n ks → x ≡ leastDelta ks → y ≡ min (sumPhi ks) u32-max → 0 < x → 0 < y
-      → Inner G (record { pos = n .pos; phi = x; delta = y; move = n .move; expanded = n .expanded }) ks
+      → Inner G (record { pos = n .pos; phi = x; delta = y; move = n .move; expanded = n .expanded; remembered = n .remembered }) ks
   worked-out x y up n ks h p d a b = record {
     opened = h .opened;
     phi-pos = a;

@@ -10,7 +10,7 @@ use Rattle.machine.specs.Tree.{INFINITY, Node, Children, none, child, ap
 use Rattle.machine.specs.Machine.{Ancestor, State, Policy, down, descend, toLeaf}
 use Rattle.machine.specs.Value.{Lawful}
 use Rattle.machine.specs.Numbers.{ByMoves, NodeOk, open-leaf, inner, won, lost, Good, inner-of, openLeaves, open-size, bounded}
-use Rattle.machine.specs.Place.{pool-max, by-moves-at, Above, sizes, sizesOf, AtUnsolved, Infinite, UnsolvedAt, Sane, Moved, into-ok}
+use Rattle.machine.specs.Place.{pool-max, by-moves-at, Above, sizes, sizesOf, AtUnsolved, Infinite, Choosable, UnsolvedAt, Sane, Moved, into-ok}
 
 infinite : (G : Game) (ks : Children (G .Pos)) → Good G ks → Infinite ks
 infinite G none g = tt
@@ -59,15 +59,19 @@ module _ (G : Game) (P : Policy G) where
   unfolding toLeaf
   leaf-here s e = descend-out (G .left (s .node .pos)) s e
 
+-- What step 2 meets at an unsolved expanded node
+pub choosable : (G : Game) (r : G .Pos) (s : State (G .Pos)) → AtUnsolved G r s → sizesOf G s .nodes ≤ pool-max → s .node .expanded ≡ true → Choosable (s .node) (s .below)
+unfolding sizes
+choosable G r s h z e =
+    let i = inner-of G (s .node) (s .below) (h .ok) (h .phi-pos) (h .delta-pos) e in
+    let b = bounded G (s .below) (h .good) (omega (arith, i .phi-pos, i .phi-is)) in
+    let most : s .node .phi ≤ openLeaves (s .below) = omega (arith, i .phi-is, b .1 (omega (arith, i .delta-is, i .delta-pos))) in
+    record { phi-pos = i .phi-pos; phi-small = omega (arith, open-size (s .below)); phi-is = i .phi-is; infinite = infinite G (s .below) (h .good) }
+
 module _ (G : Game) (L : Lawful G) (P : Policy G) (Q : Sane G P) (r : G .Pos) where
   -- The child that step 2 takes is there and unsolved
   pub taken : (s : State (G .Pos)) → AtUnsolved G r s → sizesOf G s .nodes ≤ pool-max → s .node .expanded ≡ true → UnsolvedAt (s .below) (P .select (s .node) (s .below))
-  unfolding sizes
-  taken s h z e =
-      let i = inner-of G (s .node) (s .below) (h .ok) (h .phi-pos) (h .delta-pos) e in
-      let b = bounded G (s .below) (h .good) (omega (arith, i .phi-pos, i .phi-is)) in
-      let most : s .node .phi ≤ openLeaves (s .below) = omega (arith, i .phi-is, b .1 (omega (arith, i .delta-is, i .delta-pos))) in
-      Q .selects (s .node) (s .below) (record { phi-pos = i .phi-pos; phi-small = omega (arith, open-size (s .below)); phi-is = i .phi-is; infinite = infinite G (s .below) (h .good) })
+  taken s h z e = Q .selects (s .node) (s .below) (choosable G r s h z e)
 
   pub down-ok : (s : State (G .Pos)) → AtUnsolved G r s → sizesOf G s .nodes ≤ pool-max → s .node .expanded ≡ true → Moved G r (s .counts) (s .above) (s .node) (s .below) (down G P s)
   unfolding down append

@@ -5,6 +5,7 @@ pub mod Machine
 pub mod Needs
 pub mod Compute
 pub mod Cases
+pub mod StayCases
 pub mod Value
 pub mod Sequences
 pub mod Numbers

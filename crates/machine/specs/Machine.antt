@@ -1,13 +1,18 @@
 -- The plain machine (MANUAL, Search): its state, its steps under their numbers, the loop and the result. Rests on Game and Tree.
 use mathlib.Core.List.{List, [], _∷_}
-use mathlib.Core.Bool.{Bool, true, false, _&&_, cond}
-use Prim.Native.Nat.{ℕ, zero, suc, _+_, _-_, _%_, min}
-use lib.Dec.{eqb, ltb}
+use mathlib.Core.Bool.{Bool, true, false, not, _&&_, cond}
+use Prim.Native.Nat.{ℕ, zero, suc, _+_, _*_, _-_, _%_, min}
+use lib.Dec.{eqb, ltb, leb}
 use Rattle.machine.specs.Game.{Game}
 use Rattle.machine.specs.Tree.{Node, leaf, solved, proofOf, disproofOf, u32-max, Children, none, child, size, leastDelta, sumPhi, append}
 
+-- Staying on a line (MANUAL): off, or with a margin of so many 256ths
+pub data Stay : Type 0 where
+  off : Stay
+  margin : (k : ℕ) → Stay
+
 abbrev pub Settings : Type 0  -- what a search is given; of the pool, its number of nodes and never its words
-Settings = record { pool : ℕ; limit : ℕ; budget : ℕ; interval : ℕ }
+Settings = record { pool : ℕ; limit : ℕ; budget : ℕ; interval : ℕ; stay : Stay }
 
 abbrev pub Counts : Type 0  -- what the machine counts
 Counts = record { allocated : ℕ; freed : ℕ; proved : ℕ; disproved : ℕ; expanded : ℕ }
@@ -59,10 +64,32 @@ hasDelta x n = eqb (n .delta) x
 abbrev pub firstWith : {Pos : Type 0} → ℕ → Children Pos → ℕ
 firstWith x ks = firstThat (hasDelta x) ks
 
--- Step 2: to the child at a place of the list, past those before it; and so on from the current node down while expanded
+abbrev pub hasMove : {Pos : Type 0} → ℕ → Node Pos → Bool
+hasMove x n = eqb (n .move) x
+
+unfoldable pub holdsAt : {Pos : Type 0} → (Node Pos → Bool) → Children Pos → ℕ → Bool  -- there is a child at the place, and it passes the test
+holdsAt test none i = false
+holdsAt test (child n b ks) zero = test n
+holdsAt test (child n b ks) (suc i) = holdsAt test ks i
+
+unfoldable pub withinMargin : {Pos : Type 0} → ℕ → ℕ → Node Pos → Bool  -- unsolved, and its delta is at most phi times (256 + k) / 256
+withinMargin k phi m = not (solved m) && leb (256 * m .delta) (phi * (256 + k))
+
+-- The child that step 2 takes. Off: the first listed child whose delta equals the node's phi. With a margin: the child that the remembered move names, if it
+-- is within the margin; otherwise as with off
+unfoldable pub choice : {Pos : Type 0} → Stay → Node Pos → Children Pos → ℕ
+choice off n ks = firstWith (n .phi) ks
+choice (margin k) n ks =
+    let again = firstThat (hasMove (n .remembered)) ks in
+    elim (holdsAt (withinMargin k (n .phi)) ks again) [ true ↦ again | false ↦ firstWith (n .phi) ks ]
+
+abbrev pub remember : {Pos : Type 0} → Node Pos → ℕ → Node Pos  -- the move x is the one last taken from n
+remember n x = record { pos = n .pos; phi = n .phi; delta = n .delta; move = n .move; expanded = n .expanded; remembered = x }
+
+-- Step 2: to the child at a place of the list, past those before it, its move remembered; and so on from the current node down while expanded
 unfoldable pub into : {Pos : Type 0} → Counts → List (Ancestor Pos) → Node Pos → Children Pos → Children Pos → ℕ → State Pos
 into c up n before none i = state c up n before
-into c up n before (child m b ks) zero = state c (record { node = n; before = before; after = ks } ∷ up) m b
+into c up n before (child m b ks) zero = state c (record { node = remember n (m .move); before = before; after = ks } ∷ up) m b
 into c up n before (child m b ks) (suc i) = into c up n (append before (child m b none)) ks i
 
 module _ (G : Game) (P : Policy G) where
@@ -90,12 +117,12 @@ module _ (G : Game) where
   unfoldable pub children : G .Pos → Children (G .Pos)  -- all that step 4 makes
   children p = make p (G .moves p) none
 
-  -- The choices of MANUAL, Search: step 2 takes the first listed child whose delta equals the node's phi; step 3 asks for as many nodes as step 4 makes
-  unfoldable pub standard : Policy G
-  standard = record { select = λ n ks. firstWith (n .phi) ks; need = λ p. size (children p) }
+  -- The choices of MANUAL, Search, with a setting: step 3 asks for as many nodes as step 4 makes
+  unfoldable pub standard : Stay → Policy G
+  standard y = record { select = λ n ks. choice y n ks; need = λ p. size (children p) }
 
   unfoldable pub opened : Node (G .Pos) → Node (G .Pos)  -- marked as expanded
-  opened n = record { pos = n .pos; phi = n .phi; delta = n .delta; move = n .move; expanded = true }
+  opened n = record { pos = n .pos; phi = n .phi; delta = n .delta; move = n .move; expanded = true; remembered = n .remembered }
 
   unfoldable pub expand : State (G .Pos) → State (G .Pos)
   expand s =
@@ -105,7 +132,7 @@ module _ (G : Game) where
 
   -- Step 5, from the leaf upward: phi is the least child delta, delta the sum of child phis, held
   unfoldable pub renumber : Node (G .Pos) → Children (G .Pos) → Node (G .Pos)
-  renumber n ks = record { pos = n .pos; phi = leastDelta ks; delta = min (sumPhi ks) u32-max; move = n .move; expanded = n .expanded }
+  renumber n ks = record { pos = n .pos; phi = leastDelta ks; delta = min (sumPhi ks) u32-max; move = n .move; expanded = n .expanded; remembered = n .remembered }
 
   unfoldable pub unchanged : Node (G .Pos) → Children (G .Pos) → Bool  -- both numbers are as they were
   unchanged n ks = eqb (n .phi) (renumber n ks .phi) && eqb (n .delta) (renumber n ks .delta)

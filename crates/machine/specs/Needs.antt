@@ -4,7 +4,7 @@ use Prim.Native.Nat.{_≤_}
 use lib.ListN.{length}
 use Rattle.machine.specs.Game.{Game}
 use Rattle.machine.specs.Tree.{Node, Children}
-use Rattle.machine.specs.Machine.{Policy, standard}
+use Rattle.machine.specs.Machine.{Stay, Policy, standard}
 
 -- P and Q choose the same child and differ in step 3 alone: P asks for no less nodes than Q, at any position
 pub record AsksNoLess (G : Game) (P Q : Policy G) : Type 0 where
@@ -12,5 +12,5 @@ pub record AsksNoLess (G : Game) (P Q : Policy G) : Type 0 where
   pub no-less : (p : G .Pos) → Q .need p ≤ P .need p
 
 -- The choices of MANUAL, Search, but for step 3: as many nodes as the leaf has legal moves, though step 4 may make fewer children
-unfoldable pub askingForMoves : (G : Game) → Policy G
-askingForMoves G = record { select = standard G .select; need = λ p. length (G .moves p) }
+unfoldable pub askingForMoves : (G : Game) → Stay → Policy G
+askingForMoves G y = record { select = standard G y .select; need = λ p. length (G .moves p) }

@@ -6,7 +6,7 @@ use Prim.Native.Nat.{_-_}
 use native.Mathlib.Omega.{arith}
 use borrow.Author.Tests.{ltb-false, le-ltb}
 use Rattle.machine.specs.Game.{Game}
-use Rattle.machine.specs.Machine.{Settings, live, State, start, Policy, standard, short, result, ends, search}
+use Rattle.machine.specs.Machine.{Stay, Settings, live, State, start, Policy, standard, short, result, ends, search}
 use Rattle.machine.specs.Value.{Lawful}
 use Rattle.machine.specs.Rounds.{children-ok}
 use Rattle.machine.specs.RunsAlike.{run-alike}
@@ -23,6 +23,6 @@ module _ (G : Game) (P Q : Policy G) (h : AsksNoLess G P Q) (S : Settings) where
   asking-no-more p v = ap (result G) (run-alike G P Q (h .same-child) S S not-short (λ s. refl) (S .budget) (start G p) (λ two. absurd (v two)))
 
 -- The plain machine asks for no more nodes than there are legal moves
-pub no-more-than-moves : (G : Game) → Lawful G → AsksNoLess G (askingForMoves G) (standard G)
+pub no-more-than-moves : (G : Game) → Lawful G → (y : Stay) → AsksNoLess G (askingForMoves G y) (standard G y)
 unfolding askingForMoves standard
-no-more-than-moves G L = record { same-child = λ n ks. refl; no-less = λ p. omega (arith, children-ok G L p .most) }
+no-more-than-moves G L y = record { same-child = λ n ks. refl; no-less = λ p. omega (arith, children-ok G L p .most) }

@@ -196,7 +196,7 @@ module _ (G : Game) (L : Lawful G) where
   leaf-good p m = go (Bool·beq (G .final p) (G .mine p)) (G .moves p) refl refl
     where
       go : (w : Bool) (ms : List ℕ) → Bool·beq (G .final p) (G .mine p) ≡ w → G .moves p ≡ ms
-          → NodeOk G (record { pos = p; phi = bound w ms; delta = bound (not w) ms; move = m; expanded = false }) none
+          → NodeOk G (record { pos = p; phi = bound w ms; delta = bound (not w) ms; move = m; expanded = false; remembered = 255 }) none
       go true [] e q = won refl refl (omega arith) (value-final G L p q ∙ beq-true _ _ e)
       go false [] e q = lost refl refl (omega arith) (value-final G L p q ∙ beq-false _ _ e)
       go w (x ∷ xs) e q = open-leaf (record { closed = refl; bare = refl; phi-is = refl; delta-is = refl; some = x; legal = rw q (List·Memᴰ·head refl) })

@@ -8,7 +8,7 @@ use native.Mathlib.Omega.{arith}
 use lib.ListN.{length}
 use Rattle.machine.specs.Game.{Game}
 use Rattle.machine.specs.Tree.{INFINITY, u32-max, Node, solved, Children, none, child, size, leastDelta, sumPhi, append}
-use Rattle.machine.specs.Machine.{Counts, Ancestor, State, Policy, into, children}
+use Rattle.machine.specs.Machine.{Counts, Ancestor, State, Policy, remember, into, children}
 use Rattle.machine.specs.Value.{Lawful, extra}
 use Rattle.machine.specs.Numbers.{HasMove, ByMoves, NoMoveTwice, Inner, NodeOk, Good, unsolved, tally}
 
@@ -201,22 +201,51 @@ pub record Moved (G : Game) (r : G .Pos) (c : Counts) (up : List (Ancestor (G .P
   pub sizes-same : sizesOf G s ≡ sizes G up n ks
   pub nearer : G .left (s .node .pos) < G .left (n .pos)
 
+-- What a node remembers is no matter to those above and below it
+module _ (G : Game) (n : Node (G .Pos)) (x : ℕ) where
+  inner-remember : (ks : Children (G .Pos)) → Inner G n ks → Inner G (remember n x) ks
+  inner-remember ks i = record {
+    opened = i .opened;
+    phi-pos = i .phi-pos;
+    delta-pos = i .delta-pos;
+    phi-is = i .phi-is;
+    delta-is = i .delta-is;
+    by-moves = i .by-moves;
+    all-moves = i .all-moves;
+    no-move-twice = i .no-move-twice;
+  }
+
+  same-remember : Same n (remember n x)
+  same-remember = record { alike = record { pos = refl; move = refl }; phi = refl; delta = refl }
+
+  sizes-remember : (up : List (Ancestor (G .Pos))) (ks : Children (G .Pos)) → sizes G up (remember n x) ks ≡ sizes G up n ks
+  unfolding sizes roomAt innerAt solved
+  sizes-remember up ks = refl
+
 pub into-ok : (G : Game) (L : Lawful G) (r : G .Pos) (c : Counts) (up : List (Ancestor (G .Pos))) (n : Node (G .Pos)) (a ks : Children (G .Pos)) (i : ℕ)
     → Inner G n (append a ks) → Good G a → Good G ks → Above G r up n → UnsolvedAt ks i → Moved G r c up n (append a ks) (into c up n a ks i)
 unfolding into
 into-ok G L r c up n a none i h g g′ u o = absurd o
 into-ok G L r c up n a (child m b ks) zero h g g′ u o =
     let k = by-moves-at G (n .pos) a ks m b (h .by-moves) in
+    let here = remember n (m .move) in
+    let alike : Same m m = record { alike = record { pos = refl; move = refl }; phi = refl; delta = refl } in
+    let inner = inner-remember G n (m .move) (append a (child m b ks)) h in
     record {
       rest = record {
         ok = g′ .0;
         good = g′ .1;
-        above = (record { mid = inner-swap G ks m m b none n a (record { alike = record { pos = refl; move = refl }; phi = refl; delta = refl }) h; before-good = g; after-good = g′ .2 }, u);
+        above = (
+          record { mid = inner-swap G ks m m b none here a alike inner; before-good = g; after-good = g′ .2 },
+          above-same G r up n here (same-remember G n (m .move)) u,
+        );
         phi-pos = o .0;
         delta-pos = o .1;
       };
       counts-same = refl;
-      sizes-same = sym (sizes-up G (record { node = n; before = a; after = ks }) up m b (h .opened) (unsolved n (h .phi-pos) (h .delta-pos)));
+      sizes-same =
+          sym (sizes-up G (record { node = here; before = a; after = ks }) up m b (inner .opened) (unsolved here (inner .phi-pos) (inner .delta-pos)))
+          ∙ sizes-remember G n (m .move) up (append a (child m b ks));
       nearer = rw (k .1) (L .falls (n .pos) (m .move) (k .0));
     }
 into-ok G L r c up n a (child m b ks) (suc i) h g g′ u o =

@@ -1,7 +1,7 @@
 -- The loop: how it goes on, and that a search which answers is answered alike with no less pool, limit and budget. Rests on Machine, and on Numbers for what solved says.
 use mathlib.Core.Path.{_≡_, refl, ap, sym, _∙_}
 use mathlib.Core.Logic.{inl, inr, _↔_}
-use mathlib.Core.List.{List}
+use mathlib.Core.List.{List, [], _∷_}
 use mathlib.Core.Bool.{Bool, true, false, true≢false, cond, _&&_}
 use Prim.Native.Nat.{ℕ, zero, suc, _-_, _%_, _≤_, _<_}
 use native.Mathlib.Omega.{arith}
@@ -9,7 +9,7 @@ use lib.Dec.{eqb, ltb, eqb·suc-zero}
 use borrow.Author.Tests.{ltb-false, le-ltb}
 use Rattle.machine.specs.Game.{Game}
 use Rattle.machine.specs.Tree.{Node, solved, proofOf, disproofOf, Children, none, child, append}
-use Rattle.machine.specs.Machine.{Settings, Counts, live, Ancestor, State, rootOf, root, start, Policy, into, down, descend, toLeaf, short, round, overLimit, Verdict, True, False, Unknown, verdictOf, Result, result, run, ends, search}
+use Rattle.machine.specs.Machine.{Settings, Counts, live, Ancestor, State, rootOf, root, start, Policy, remember, into, down, descend, toLeaf, short, round, overLimit, Verdict, True, False, Unknown, verdictOf, Result, result, run, ends, search}
 use Rattle.machine.specs.Numbers.{Solved, yes, no, is-solved}
 
 -- The verdict and the numbers
@@ -70,24 +70,30 @@ module _ (G : Game) where
   unfolding result
   result-solved s c d e = rw e
 
-  -- Step 2 leaves the root as it is
-  root-into : (c : Counts) (up : List (Ancestor (G .Pos))) (n : Node (G .Pos)) (a ks : Children (G .Pos)) (i : ℕ) → root (into c up n a ks i) ≡ rootOf up n
+  -- Step 2 leaves the root solved or unsolved, as it is
+  root-remember : (up : List (Ancestor (G .Pos))) (n : Node (G .Pos)) (x : ℕ) → solved (rootOf up (remember n x)) ≡ solved (rootOf up n)
+  unfolding rootOf solved
+  root-remember [] n x = refl
+  root-remember (a ∷ up) n x = refl
+
+  root-into : (c : Counts) (up : List (Ancestor (G .Pos))) (n : Node (G .Pos)) (a ks : Children (G .Pos)) (i : ℕ) → solved (root (into c up n a ks i)) ≡ solved (rootOf up n)
   unfolding into root rootOf
   root-into c up n a none i = refl
-  root-into c up n a (child m b ks) zero = refl
+  root-into c up n a (child m b ks) zero = root-remember up n (m .move)
   root-into c up n a (child m b ks) (suc i) = root-into c up n (append a (child m b none)) ks i
 
 module _ (G : Game) (P : Policy G) where
-  root-descend : (k : ℕ) (s : State (G .Pos)) → root (descend G P k s) ≡ root s
+  root-descend : (k : ℕ) (s : State (G .Pos)) → solved (root (descend G P k s)) ≡ solved (root s)
   unfolding descend down root
   root-descend zero s = refl
   root-descend (suc k) s = go (s .node .expanded) (root-descend k (down G P s))
     where
-      go : (b : Bool) → root (descend G P k (down G P s)) ≡ root (down G P s) → root {Pos = G .Pos} (elim b [ true ↦ descend G P k (down G P s) | false ↦ s ]) ≡ root s
+      go : (b : Bool) → solved (root (descend G P k (down G P s))) ≡ solved (root (down G P s))
+          → solved (root {Pos = G .Pos} (elim b [ true ↦ descend G P k (down G P s) | false ↦ s ])) ≡ solved (root s)
       go true h = h ∙ root-into G (s .counts) (s .above) (s .node) none (s .below) _
       go false h = refl
 
-  pub root-leaf : (s : State (G .Pos)) → root (toLeaf G P s) ≡ root s
+  pub root-leaf : (s : State (G .Pos)) → solved (root (toLeaf G P s)) ≡ solved (root s)
   unfolding toLeaf
   root-leaf s = root-descend (G .left (s .node .pos)) s
 
@@ -164,7 +170,7 @@ module _ (G : Game) (P : Policy G) (S T : Settings) (h : NoLess S T) where
       go : Course G P S s → ((result G (run G P S j (round G P s)) .verdict ≡ Unknown → ⊥) → result G (run G P T k (round G P s)) ≡ result G (run G P S j (round G P s)))
           → result G (run G P T (suc k) s) ≡ result G (run G P S (suc j) s)
       go (at-end e) f = from-solved T (suc k) 0 s e ∙ sym (from-solved S (suc j) 0 s e)
-      go (lacking e t) f = absurd (v (ap (λ (x : State (G .Pos) × ℕ). result G x .verdict) (run-short G P S j s e t) ∙ unsolved-unknown G (toLeaf G P s, 2) (ap solved (root-leaf G P s) ∙ e)))
+      go (lacking e t) f = absurd (v (ap (λ (x : State (G .Pos) × ℕ). result G x .verdict) (run-short G P S j s e t) ∙ unsolved-unknown G (toLeaf G P s, 2) (root-leaf G P s ∙ e)))
       go (stopped e t o) f = over (solved (root (round G P s))) refl (overLimit T (round G P s)) refl
         where
           over : (b : Bool) → solved (root (round G P s)) ≡ b → (d : Bool) → overLimit T (round G P s) ≡ d → result G (run G P T (suc k) s) ≡ result G (run G P S (suc j) s)

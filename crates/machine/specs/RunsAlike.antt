@@ -32,7 +32,7 @@ module _ (G : Game) (P Q : Policy G) (same : (n : Node (G .Pos)) (ks : Children 
     -- A run that step 3 stopped has cause 2
     cause-short : (s : State (G .Pos)) → solved (root s) ≡ false → result G (toLeaf G P s, 2) .cause ≡ 2
     unfolding result
-    cause-short s e = rw (ap solved (root-leaf G P s) ∙ e)
+    cause-short s e = rw (root-leaf G P s ∙ e)
 
     -- THEOREM: they end alike, unless the first has cause 2; and then too if the second is short wherever the first is
     pub run-alike : (k : ℕ) (s : State (G .Pos)) → (result G (run G P S k s) .cause ≡ 2 → (t : State (G .Pos)) → short G P S t ≡ true → short G Q T t ≡ true) → run G Q T k s ≡ run G P S k s

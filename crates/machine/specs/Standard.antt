@@ -1,16 +1,18 @@
--- The choices of steps 2 and 3 (MANUAL, Search) are sane, so that all of Third and Reached holds of the plain machine; and of a search that starts at a finished position. Rests on Third.
-use mathlib.Core.Path.{_≡_, refl, ap}
+-- The choices of steps 2 and 3 (MANUAL, Search and Staying on a line) are sane with each setting, so that all of Third and Reached holds of the plain machine; and of a search that
+-- starts at a finished position. Rests on Third.
+use mathlib.Core.Path.{_≡_, refl, ap, sym}
 use mathlib.Core.List.{List, [], _∷_}
-use mathlib.Core.Bool.{Bool, true, false, not, _||_, Bool·beq}
-use Prim.Native.Nat.{ℕ, zero, suc, _<_}
+use mathlib.Core.Bool.{Bool, true, false, true≢false, not, _&&_, _||_, Bool·beq}
+use Prim.Native.Nat.{ℕ, zero, suc, _+_, _*_, _<_}
 use native.Mathlib.Omega.{arith}
-use lib.Dec.{eqb}
+use lib.Dec.{eqb, leb}
 use borrow.Author.Tests.{eqb-true, eqb-false}
 use Rattle.machine.specs.Game.{Game}
-use Rattle.machine.specs.Tree.{INFINITY, Children, none, child, leastDelta, bound, leaf, solved}
-use Rattle.machine.specs.Machine.{Settings, State, Policy, firstThat, firstWith, standard, start, rootOf, root, run, ends}
+use Rattle.machine.specs.Tree.{INFINITY, Node, Children, none, child, leastDelta, bound, leaf, solved}
+use Rattle.machine.specs.Machine.{Stay, off, margin, Settings, State, Policy, firstThat, firstWith, hasMove, holdsAt, withinMargin, choice, standard, start, rootOf, root, run, ends}
 use Rattle.machine.specs.Value.{Lawful, extra}
-use Rattle.machine.specs.Place.{Infinite, UnsolvedAt, Sane}
+use Rattle.machine.specs.Numbers.{open-of}
+use Rattle.machine.specs.Place.{Infinite, Choosable, UnsolvedAt, Sane}
 use Rattle.machine.specs.Rounds.{children-ok}
 use Rattle.machine.specs.Runs.{run-solved}
 use Rattle.machine.specs.Reached.{PoolInRange}
@@ -30,18 +32,42 @@ first-open x (child n c ks) h a b e = go (eqb (n .delta) x) refl (λ q. first-op
     go true q f = let d = eqb-true (n .delta) x q in (positive (n .phi) refl d, omega arith)
     go false q f = f (omega (arith, eqb-false (n .delta) x q))
 
+pub listed-open : {Pos : Type 0} (n : Node Pos) (ks : Children Pos) → Choosable n ks → UnsolvedAt ks (firstWith (n .phi) ks)
+listed-open n ks c = first-open (n .phi) ks (c .infinite) (c .phi-pos) (omega (arith, c .phi-small)) (c .phi-is)
+
+-- A child within the margin is unsolved
+within-open : {Pos : Type 0} (k phi : ℕ) (ks : Children Pos) (i : ℕ) → holdsAt (withinMargin k phi) ks i ≡ true → UnsolvedAt ks i
+unfolding holdsAt withinMargin
+within-open k phi none i e = absurd (true≢false (sym e))
+within-open k phi (child m b ks) (suc i) e = within-open k phi ks i e
+within-open k phi (child m b ks) zero e = go (solved m) refl e
+  where
+    go : (t : Bool) → solved m ≡ t → not t && leb (256 * m .delta) (phi * (256 + k)) ≡ true → (0 < m .phi) × (0 < m .delta)
+    go true q z = absurd (true≢false (sym z))
+    go false q z = open-of m q
+
+-- The child that step 2 takes with a setting is unsolved
+choice-open : {Pos : Type 0} (y : Stay) (n : Node Pos) (ks : Children Pos) → Choosable n ks → UnsolvedAt ks (choice y n ks)
+unfolding choice
+choice-open off n ks c = listed-open n ks c
+choice-open (margin k) n ks c = go (firstThat (hasMove (n .remembered)) ks) (holdsAt (withinMargin k (n .phi)) ks (firstThat (hasMove (n .remembered)) ks)) refl
+  where
+    go : (i : ℕ) (t : Bool) → holdsAt (withinMargin k (n .phi)) ks i ≡ t → UnsolvedAt ks (elim t [ true ↦ i | false ↦ firstWith (n .phi) ks ])
+    go i true q = within-open k (n .phi) ks i q
+    go i false q = listed-open n ks c
+
 module _ (G : Game) (L : Lawful G) where
-  pub standard-sane : Sane G (standard G)
+  pub standard-sane : (y : Stay) → Sane G (standard G y)
   unfolding standard extra
-  standard-sane = record {
-    selects = λ n ks c. first-open (n .phi) ks (c .infinite) (c .phi-pos) (omega (arith, c .phi-small)) (c .phi-is);
+  standard-sane y = record {
+    selects = λ n ks c. choice-open y n ks c;
     covers = λ p. omega arith;
     within = λ p. omega (arith, children-ok G L p .room);
   }
 
-  -- THEOREM: the third condition for the plain machine
-  pub third-standard : (p : G .Pos) → G .mine p ≡ true → (S T : Settings) → PoolInRange S → PoolInRange T → Third G (standard G) p S T
-  third-standard p ours S T f g = third G L (standard G) standard-sane p ours S T f g
+  -- THEOREM: the third condition for the plain machine, with each setting
+  pub third-standard : (y : Stay) (p : G .Pos) → G .mine p ≡ true → (S T : Settings) → PoolInRange S → PoolInRange T → Third G (standard G y) p S T
+  third-standard y p ours S T f g = third G L (standard G y) (standard-sane y) p ours S T f g
 
 -- A leaf solved on sight is not counted: a search of a finished position ends as it starts, allocated 1 and all else 0
 solved-on-sight : (w : Bool) (ms : List ℕ) → ms ≡ [] → eqb (bound w ms) 0 || eqb (bound (not w) ms) 0 ≡ true

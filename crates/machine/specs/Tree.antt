@@ -11,8 +11,9 @@ INFINITY = 2147483648
 abbrev pub u32-max : ℕ  -- where sums are held
 u32-max = 4294967295
 
-abbrev pub Node : Type 0 → Type 0  -- what the pool holds of a node, and its position; move is the one that led to it
-Node Pos = record { pos : Pos; phi : ℕ; delta : ℕ; move : ℕ; expanded : Bool }
+-- What the pool holds of a node, and its position; move is the one that led to it, remembered the one last taken from it (255: none yet)
+abbrev pub Node : Type 0 → Type 0
+Node Pos = record { pos : Pos; phi : ℕ; delta : ℕ; move : ℕ; expanded : Bool; remembered : ℕ }
 
 -- A leaf that is won for its mover (finished, with the value that the mover wants) is (0, INFINITY), a lost one the reverse, an open one (1, 1)
 unfoldable pub bound : Bool → List ℕ → ℕ
@@ -22,7 +23,7 @@ bound won (m ∷ ms) = 1
 unfoldable pub leaf : (G : Game) → G .Pos → ℕ → Node (G .Pos)
 leaf G p m =
     let won = Bool·beq (G .final p) (G .mine p) in
-    record { pos = p; phi = bound won (G .moves p); delta = bound (not won) (G .moves p); move = m; expanded = false }
+    record { pos = p; phi = bound won (G .moves p); delta = bound (not won) (G .moves p); move = m; expanded = false; remembered = 255 }
 
 unfoldable pub solved : {Pos : Type 0} → Node Pos → Bool  -- a number is 0
 solved n = eqb (n .phi) 0 || eqb (n .delta) 0

@@ -198,7 +198,7 @@ module _ (G : Game) (L : Lawful G) (r : G .Pos) where
       → Capped G r n → AllCapped G r a → AllCapped G r ks → CappedAbove G r up → StateCapped G r (into c up n a ks i)
   unfolding into
   into-capped c up n a none i k x y u = record { node = k; below = x; above = u }
-  into-capped c up n a (child m b ks) zero k x y u = record { node = y .0; below = y .1; above = (k, x, y .2, u) }
+  into-capped c up n a (child m b ks) zero k x y u = record { node = y .0; below = y .1; above = (record { left = k .left; if-won = k .if-won; if-lost = k .if-lost }, x, y .2, u) }
   into-capped c up n a (child m b ks) (suc i) k x y u = into-capped c up n (append a (child m b none)) ks i k (capped-append a (child m b none) x (y .0, y .1, tt)) (y .2) u
 
   descend-capped : (P : Policy G) (k : ℕ) (s : State (G .Pos)) → StateCapped G r s → StateCapped G r (descend G P k s)

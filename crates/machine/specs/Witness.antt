@@ -5,6 +5,7 @@ use mathlib.Core.Bool.{Bool, true, false, not, Bool·beq}
 use Prim.Native.Nat.{ℕ, zero, suc, _-_, _<_}
 use native.Mathlib.Omega.{arith}
 use Rattle.machine.specs.Game.{value}
+use Rattle.machine.specs.Machine.{off}
 use Rattle.machine.specs.Compute.{settings}
 use Rattle.machine.specs.Cases.{takes, heaps, nim}
 use Rattle.machine.specs.Value.{Distinct, Lawful}
@@ -42,7 +43,7 @@ heaps-lawful side xWins = record { falls = λ p m i. falls (p .at) m i; turns = 
 -- By the third condition, from the machine's answer
 nim-5 : value (heaps true (λ x. not x)) (record { at = 5; x = true }) ≡ true
 unfolding nim
-nim-5 = third-standard (heaps true (λ x. not x)) (heaps-lawful true (λ x. not x)) (record { at = 5; x = true }) refl (settings 20 20 20 2) (settings 20 20 20 2) in-range in-range .first .true-value refl
+nim-5 = third-standard (heaps true (λ x. not x)) (heaps-lawful true (λ x. not x)) off (record { at = 5; x = true }) refl (settings 20 20 20 2) (settings 20 20 20 2) in-range in-range .first .true-value refl
   where
     in-range : PoolInRange (settings 20 20 20 2)
     in-range = record { some = omega arith; most = omega arith }

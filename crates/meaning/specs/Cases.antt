@@ -9,7 +9,7 @@ use Rattle.rules.specs.Rules.{keep}
 use Rattle.machine.specs.Game.{Game}
 use Rattle.machine.specs.Tree.{Children}
 use Rattle.machine.specs.Machine.{Settings, Result, fields, treeOf, tree, standard, ends, Unknown}
-use Rattle.machine.specs.Compute.{computed, settings}
+use Rattle.machine.specs.Compute.{computed, settings, withMargin}
 use Rattle.machine.specs.Cases.{Toy, table, takes, heaps}
 use Rattle.meaning.specs.Meaning.{Line, linesAt, linesIn, openLines, isIn, isTrue, isFalse, fromChildren, verdictAt, verdictsIn, rootVerdict}
 use Rattle.meaning.specs.Verdicts.{verdictFor, comesTo}
@@ -32,7 +32,7 @@ firstSize test l (suc n) k = orElse (keep test (choose k l)) (firstSize test l n
 -- The tree where a search ends, its open leaves, and the smallest of their sets that make the root True, or False
 unfoldable endTree : (G : Game) → Settings → G .Pos → Children (G .Pos)
 unfolding computed treeOf tree
-endTree G S p = tree (ends G (standard G) S p .0)
+endTree G S p = tree (ends G (standard G (S .stay)) S p .0)
 
 unfoldable pub leaves : (G : Game) → Settings → G .Pos → List Line
 unfolding endTree linesAt linesIn openLines
@@ -121,6 +121,11 @@ pub record MeaningCases : Type 0 where
       (2211 ∷ 212 ∷ 211 ∷ 1222 ∷ 1221 ∷ 1212 ∷ 1211 ∷ 112 ∷ 111 ∷ [])
       ((2211 ∷ 212 ∷ []) ∷ (2211 ∷ 211 ∷ []) ∷ [])
       ((2211 ∷ 1222 ∷ 1212 ∷ []) ∷ (2211 ∷ 1222 ∷ 1211 ∷ []) ∷ (2211 ∷ 1221 ∷ 1212 ∷ []) ∷ (2211 ∷ 1221 ∷ 1211 ∷ []) ∷ (2211 ∷ 112 ∷ 111 ∷ []) ∷ [])
+  -- three expansions with margin 1: the search stays with move 3, which is False then; with off it would have looked into move 2
+  pub staying : Case three-two (withMargin 256 (settings 100 1000 3 10)) root-x (fields Unknown 1 2 7 3 0 2 3 1)
+      (2 ∷ 1 ∷ [])
+      ((2 ∷ []) ∷ (1 ∷ []) ∷ [])
+      ((2 ∷ 1 ∷ []) ∷ [])
   -- nine stones, O at the root
   pub root-o : Case (heaps false (λ x. not x)) five (record { at = 9; x = false }) (fields Unknown 2 3 11 0 0 0 5 1)
       (222 ∷ 221 ∷ 212 ∷ 211 ∷ 12 ∷ 11 ∷ [])
@@ -136,5 +141,6 @@ meaning-cases = record {
   solved-counts = (refl, refl, refl, refl);
   alone = (refl, refl, refl, refl);
   short-pool = (refl, refl, refl, refl);
+  staying = (refl, refl, refl, refl);
   root-o = (refl, refl, refl, refl);
 }

@@ -14,7 +14,7 @@ use Rattle.meaning.specs.Leaves.{positionAfter, LeavesNamed}
 
 -- The machine's tree in its last state
 unfoldable pub lastTree : ℕ → Settings → List ℕ → Children Position
-lastTree rule S bytes = let p = positionOf bytes in tree (ends (gameOf rule p) (policyOf rule (p .side)) S p .0)
+lastTree rule S bytes = let p = positionOf bytes in tree (ends (gameOf rule p) (policyOf rule (p .side) (S .stay)) S p .0)
 
 -- The position at each leaf of a set has the value t, for the side to move in the record, whoever is to move there
 abbrev pub TurnOut : (rule : ℕ) (bytes : List ℕ) → Bool → List Line → Type 0

@@ -17,8 +17,8 @@ unknown-means rule S bytes f v =
     let p = positionOf bytes in
     let G = gameOf rule p in
     let L = lawful rule (p .side) in
-    let P = policyOf rule (p .side) in
-    let Q = policy-sane rule (p .side) in
+    let P = policyOf rule (p .side) (S .stay) in
+    let Q = policy-sane rule (p .side) (S .stay) in
     let end = ends-reached G P S p in
     record {
       numbers = meaning G L P Q S f p v;

@@ -21,7 +21,7 @@ pub record Alloced (w : List ℕ) (head : NodeID) (used : ℕ) (g : Spare w (hea
   pub number : Number w (head .0) used g (r .id .0) (r .head .0) (r .used)
   pub filled : Filled w v (r .id .0) (bounds .phi) (bounds .delta) packed NONE (sibling .0)
   pub list : Free v (leftFreed (g .list)) (r .head .0)
-  pub trees : (K : View Position) (n : Node Position) (ks : Children Position) → n .phi ≡ bounds .phi → n .delta ≡ bounds .delta → packing.packed K n ≡ packed → n .move < 256
+  pub trees : (K : View Position) (n : Node Position) (ks : Children Position) → n .phi ≡ bounds .phi → n .delta ≡ bounds .delta → packing.packed K n ≡ packed → packing.Bytes n
       → uses w ks (sibling .0) (r .id .0) ≡ 0 → Part K w ks (sibling .0) NONE → Part K v (child n none ks) (r .id .0) NONE
   pub past : Beyond w v
 

@@ -7,7 +7,7 @@ ghost use lib.ListN.{length};
 ghost use lib.Dec.{eqb};
 ghost use Rattle.rules.specs.Rules.{Position};
 ghost use Rattle.prove.specs.Numbers.{number};
-ghost use Rattle.words.specs.Packed.{pack, bit, expandedIn, andIn, moveIn};
+ghost use Rattle.words.specs.Packed.{pack, bit, expandedIn, andIn, moveIn, rememberedIn, withRemembered};
 ghost use Rattle.words.specs.Words.{NONE, PHI, DELTA, PACKED, FIRST, SIBLING, word, setWord, capacity, Slot, Filled};
 ghost use Rattle.words.specs.Free.{Spare, Number};
 ghost use Rattle.words.specs.Freeing.{plies, Pushed, Freeable};
@@ -27,7 +27,7 @@ const FIRST: usize = 3;
 
 const SIBLING: usize = 4;
 
-// The places of the packed word's parts, most significant first: the value, the flags expanded, and, free, the move.
+// The places of the packed word's parts, most significant first: the value, the flags expanded, and, free, the move, the remembered move.
 const VALUE: u32 = 1073741824;
 
 const EXPANDED: u32 = 536870912;
@@ -37,6 +37,11 @@ const AND: u32 = 268435456;
 const FREE: u32 = 134217728;
 
 const MOVE: u32 = 524288;
+
+const REMEMBERED: u32 = 2048;
+
+// The byte of a remembered move where there is none.
+const NO_MOVE: u32 = 255;
 
 // The number that is no node's.
 pub const NO_NODE: u32 = 4294967295;
@@ -123,11 +128,11 @@ pub fn sibling(words: &[u32], id: NodeID) -> NodeID
 
 // A packed word: of a new leaf, and what each part of it says.
 pub fn pack(value: Evaluation, and: bool, mv: Move) -> u32
-    ensures { λ r. ⌜ r ≡ pack (number value) 0 (bit and) 0 (mv .0) ⌝ }
+    ensures { λ r. ⌜ r ≡ pack (number value) 0 (bit and) 0 (mv .0) 255 ⌝ }
 {
     let v = value.number();
     let a = flag(and);
-    v * VALUE + a * AND + mv.0 as u32 * MOVE
+    v * VALUE + a * AND + mv.0 as u32 * MOVE + NO_MOVE * REMEMBERED
 }
 
 fn flag(b: bool) -> u32
@@ -152,6 +157,25 @@ pub fn move_in(packed: u32) -> Move
     ensures { λ r. ⌜ r .0 ≡ moveIn packed ⌝ }
 {
     Move((packed / MOVE % 256) as u8)
+}
+
+pub fn remembered_in(packed: u32) -> Move
+    ensures { λ r. ⌜ r .0 ≡ rememberedIn packed ⌝ }
+{
+    Move((packed / REMEMBERED % 256) as u8)
+}
+
+// The remembered move of a node that has this packed word.
+pub fn remember(words: &mut [u32], id: NodeID, packed: u32, mv: Move)
+    requires { ⌜ Slot (now words) (id .0) ⌝ }
+    ensures { λ _. ⌜ now (words .exit) ≡ setWord (now (words .entry)) (id .0) PACKED (withRemembered packed (mv .0)) ⌝ }
+{
+    put(
+        words,
+        id,
+        PACKED,
+        packed / MOVE * MOVE + mv.0 as u32 * REMEMBERED,
+    );
 }
 
 pub fn set_bounds(words: &mut [u32], id: NodeID, phi: u32, delta: u32)

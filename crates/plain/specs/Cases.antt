@@ -8,11 +8,9 @@ use Rattle.rules.specs.Record.{bitAt, positionOf}
 pub use Rattle.rules.specs.Examples.{record21, E, W, D}
 pub use Rattle.machine.specs.Machine.{fields}
 use Rattle.machine.specs.Machine.{Settings, Result, True, False, Unknown}
+pub use Rattle.machine.specs.Compute.{settings, withMargin}
 use Rattle.machine.specs.Compute.{computed}
 use Rattle.plain.specs.Plain.{policyOf, searchOf, plainSearch}
-
-abbrev pub settings : ℕ → ℕ → ℕ → ℕ → Settings
-settings pool limit budget interval = record { pool = pool; limit = limit; budget = budget; interval = interval }
 
 -- The program judge's limit and interval, with a pool and a budget; and judge's own.
 abbrev pub judgeWith : ℕ → ℕ → Settings

@@ -15,7 +15,7 @@ use Rattle.rules.specs.Plays.{turn-passes, one-less, count-length}
 use Rattle.rules.specs.Replays.{no-move, good-move, first-good}
 use Rattle.machine.specs.Game.{backward, sequences}
 use Rattle.machine.specs.Tree.{Node, Children, size}
-use Rattle.machine.specs.Machine.{firstWith, children, standard}
+use Rattle.machine.specs.Machine.{Stay, choice, children, standard}
 use Rattle.machine.specs.Value.{Distinct, Lawful}
 use Rattle.machine.specs.Place.{Sane}
 use Rattle.machine.specs.Standard.{standard-sane}
@@ -45,24 +45,24 @@ lawful rule root = record {
   distinct = λ p. ascending-distinct (legalMoves p) (ascending p);
 }
 
--- The choices of steps 2 and 3: they are sane, the child that step 2 takes, how many nodes step 3 asks for, and that it asks for no more than one a legal move. Other crates use
+-- The choices of steps 2 and 3 with a setting: they are sane, the child that step 2 takes, how many nodes step 3 asks for, and that it asks for no more than one a legal move. Other crates use
 -- these four alone.
-module _ (rule : ℕ) (root : Player) where
-  pub policy-sane : Sane (game rule root) (policyOf rule root)
+module _ (rule : ℕ) (root : Player) (y : Stay) where
+  pub policy-sane : Sane (game rule root) (policyOf rule root y)
   unfolding policyOf
-  policy-sane = standard-sane (game rule root) (lawful rule root)
+  policy-sane = standard-sane (game rule root) (lawful rule root) y
 
-  pub policy-takes : (n : Node Position) (ks : Children Position) → policyOf rule root .select n ks ≡ firstWith (n .phi) ks
+  pub policy-takes : (n : Node Position) (ks : Children Position) → policyOf rule root y .select n ks ≡ choice y n ks
   unfolding policyOf standard
   policy-takes n ks = refl
 
-  pub policy-needs : (p : Position) → policyOf rule root .need p ≡ size (children (game rule root) p)
+  pub policy-needs : (p : Position) → policyOf rule root y .need p ≡ size (children (game rule root) p)
   unfolding policyOf standard
   policy-needs p = refl
 
-  pub policy-asks-no-more : AsksNoLess (game rule root) (askingForMoves (game rule root)) (policyOf rule root)
+  pub policy-asks-no-more : AsksNoLess (game rule root) (askingForMoves (game rule root) y) (policyOf rule root y)
   unfolding policyOf
-  policy-asks-no-more = no-more-than-moves (game rule root) (lawful rule root)
+  policy-asks-no-more = no-more-than-moves (game rule root) (lawful rule root) y
 
 -- At the root it is the root's side that is to move.
 pub root-mine : (rule : ℕ) (p : Position) → gameOf rule p .mine p ≡ true

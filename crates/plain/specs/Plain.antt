@@ -6,7 +6,7 @@ use Prim.Native.Nat.{ℕ}
 use Rattle.rules.specs.Rules.{Player, Position, legalMoves, play, same, count, finalValue}
 use Rattle.rules.specs.Record.{positionOf}
 use Rattle.machine.specs.Game.{Game, value, sequences}
-use Rattle.machine.specs.Machine.{Settings, Result, Policy, standard, search}
+use Rattle.machine.specs.Machine.{Stay, Settings, Result, Policy, standard, search}
 
 -- The game under a draw rule (0, 1 or 2) and for a root's side. The rule comes in with the value of a finished position alone.
 -- What falls at each move is the number of empty cells.
@@ -32,13 +32,13 @@ valueOf rule p = value (gameOf rule p) p
 unfoldable pub sequencesOf : Position → ℕ
 sequencesOf p = sequences (gameOf 0 p) p
 
--- The choices of steps 2 and 3 in the game of a rule and a root's side: the machine's standard ones. Laws.antt has all that is used of them.
-unfoldable pub policyOf : (rule : ℕ) (root : Player) → Policy (game rule root)
-policyOf rule root = standard (game rule root)
+-- The choices of steps 2 and 3 in the game of a rule and a root's side, with a setting: the machine's standard ones. Laws.antt has all that is used of them.
+unfoldable pub policyOf : (rule : ℕ) (root : Player) → Stay → Policy (game rule root)
+policyOf rule root y = standard (game rule root) y
 
--- The plain machine's result for a position, with these choices.
+-- The plain machine's result for a position, with the choices of the search's setting.
 unfoldable pub searchOf : ℕ → Settings → Position → Result
-searchOf rule S p = search (gameOf rule p) (policyOf rule (p .side)) S p
+searchOf rule S p = search (gameOf rule p) (policyOf rule (p .side) (S .stay)) S p
 
 -- The same three of a record: of the position that its bytes say.
 abbrev pub recordValue : ℕ → List ℕ → Bool

@@ -24,13 +24,13 @@ module _ (rule : ℕ) (p : Position) (a : Accepted p) (S : Settings) (in-range :
   G = gameOf rule p
 
   abbrev P : Policy G
-  P = policyOf rule (p .side)
+  P = policyOf rule (p .side) (S .stay)
 
   L : Lawful G
   L = lawful rule (p .side)
 
   Q : Sane G P
-  Q = policy-sane rule (p .side)
+  Q = policy-sane rule (p .side) (S .stay)
 
   -- Of each round that a search makes: t is the state that step 4 leaves to step 5.
   pub position-unheld : (s : State Position) → Reached G P S p s → solved (root s) ≡ false → short G P S (toLeaf G P s) ≡ false

@@ -48,7 +48,7 @@ module _ (rule : ℕ) (p : Position) (w : List ℕ) (some : 0 < capacity w) (few
       record { depth = 0; pool = record { head = head; used = used; allocated = 1; freed = 0 }; proved = 0; disproved = 0; expanded = 0 }
 
   pub begun : (v path ps : List ℕ) (free : NodeID) (used phi delta word id : ℕ) (value : Verdict) → value ≡ view (gameOf rule p) .value p
-      → Pair phi delta (leaf (gameOf rule p) p 255 .phi) (leaf (gameOf rule p) p 255 .delta) → word ≡ pack (verdictNumber value) 0 (bit false) 0 255
+      → Pair phi delta (leaf (gameOf rule p) p 255 .phi) (leaf (gameOf rule p) p 255 .delta) → word ≡ pack (verdictNumber value) 0 (bit false) 0 255 255
       → Number w NONE 0 (all-spare w some few) id (free .0) used → Filled w v id phi delta word NONE NONE → Beyond w v
       → getD path 0 0 ≡ id → length path ≡ 82 → length ps ≡ 1968 → game-words.Holds p ps 0
       → Begun rule p w v path ps (first free used)
@@ -56,7 +56,7 @@ module _ (rule : ℕ) (p : Position) (w : List ℕ) (some : 0 < capacity w) (few
   begun v path ps free used phi delta word id value ev bounds ew number filled past at long-path long-ps holds = record {
     stands = record {
       tree = holds-start (gameOf rule p) (view (gameOf rule p)) v path (free .0) used p
-          (holding-root (view (gameOf rule p)) w path some few id (free .0) used number v (leaf (gameOf rule p) p 255) (omega arith) root at);
+          (holding-root (view (gameOf rule p)) w path some few id (free .0) used number v (leaf (gameOf rule p) p 255) (omega arith, omega arith) root at);
       positions = holds;
       proved-is = refl;
       disproved-is = refl;

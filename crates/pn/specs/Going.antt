@@ -19,6 +19,7 @@ use Rattle.words.specs.Packed.{view}
 use Rattle.words.specs.Words.{PHI, DELTA, word, capacity}
 use Rattle.words.specs.Trees.{Held}
 use Rattle.prover.specs.Stands.{Stands}
+use Rattle.stay.specs.Margin.{stayOf, StayInRange}
 use Rattle.pn.specs.Ticks.{Ticks}
 use Rattle.pn.specs.Courses.{Leads, Ends, Spent, leads-again}
 use Rattle.pn.specs.Root.{root-place, root-held}
@@ -29,19 +30,20 @@ use Rattle.pn.specs.declared.SearchResult.{SearchResult}
 
 -- the policy of the settings, for a search of p
 abbrev pub policyFor : (s : Settings) (p : Position) → machine.Policy (gameOf (s .rule) p)
-policyFor s p = policyOf (s .rule) (p .side)
+policyFor s p = policyOf (s .rule) (p .side) (stayOf (s .stay))
 
 -- words of the same length make a pool of the same capacity
 pub settings-long : (w v : List ℕ) (s : Settings) → length v ≡ length w → machineSettings v s ≡ machineSettings w s
 settings-long w v s e = rw e
 
--- the ranges that keep counts within their words
+-- the ranges that keep counts within their words, and products of floats exact
 pub record Ranges (w : List ℕ) (s : Settings) : Type 0 where
   pub some : 0 < capacity w
   pub few : capacity w ≤ pool-max
   pub interval-some : 0 < s .interval
   pub budget-most : s .budget ≤ 1000000000000
   pub rule-few : s .rule < 3
+  pub stay-in-range : StayInRange (s .stay)
 
 -- a search of p stands there: it goes on as the machine's does, or has ended; with its budget spent it stands where the machine's ended, and its counter goes on from there
 pub record Going (p : Position) (s : Settings) (w path ps : List ℕ) (x : Running) : Type 0 where
@@ -58,7 +60,7 @@ pub record Going (p : Position) (s : Settings) (w path ps : List ℕ) (x : Runni
 
 -- the same settings with another budget, and a search that takes up again
 abbrev pub withBudget : Settings → ℕ → Settings
-withBudget s b = record { rule = s .rule; limit = s .limit; budget = b; interval = s .interval }
+withBudget s b = record { rule = s .rule; limit = s .limit; budget = b; interval = s .interval; stay = s .stay }
 
 abbrev pub again : Running → Running
 again x = record { prover = x .prover; tick = x .tick; stop = false; cause = 0 }

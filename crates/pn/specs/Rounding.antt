@@ -25,6 +25,7 @@ use Rattle.plain.specs.Laws.{lawful, policy-sane}
 use Rattle.words.specs.Words.{capacity}
 use Rattle.prover.specs.declared.Prover.{Prover}
 use Rattle.prover.specs.Stands.{Stands, Searching}
+use Rattle.stay.specs.Margin.{stayOf}
 use Rattle.pn.specs.Ticks.{Ticks, tick-some, tick-due, tick-again, tick-not-due, tick-next}
 use Rattle.pn.specs.Courses.{Leads, Ends, Spent, ends-solved, ends-spent, ends-short, ends-over, leads-on}
 use Rattle.pn.specs.Results.{machineSettings}
@@ -63,7 +64,7 @@ module _ (p : Position) (s : Settings) (w : List ℕ) where
   L = lawful (s .rule) (p .side)
 
   Q : Sane G P
-  Q = policy-sane (s .rule) (p .side)
+  Q = policy-sane (s .rule) (p .side) (stayOf (s .stay))
 
   -- a state that ends the search of p, or leads on, in words of the same length
   module _ (w′ path′ ps′ : List ℕ) (long : length w′ ≡ length w) (few : count 0 (p .cells) ≤ 81) (y : Running) (t : machine.State Position)
@@ -150,10 +151,10 @@ module _ (p : Position) (s : Settings) (w : List ℕ) where
       leaf-playing = legal _ _ (in-legal _ _ (leaf-open .legal)) .unfinished
 
       -- step 3: short of nodes at the leaf
-      pub stop-short : (path′ ps′ : List ℕ) (y : Running) → Stands (s .rule) (p .side) w path′ ps′ (y .prover) t → machine.short G P S t ≡ true
-          → y .stop ≡ true → y .cause ≡ 2 → Going p s w path′ ps′ y
-      stop-short path′ ps′ y st b es ec =
-          goes-no-further w path′ ps′ refl (g .few) y _ st leaf-ok (rw (leaf .counts-same) (g .allocated-most)) es
+      pub stop-short : (w′ path′ ps′ : List ℕ) (y : Running) → length w′ ≡ length w → Stands (s .rule) (p .side) w′ path′ ps′ (y .prover) t → machine.short G P S t ≡ true
+          → y .stop ≡ true → y .cause ≡ 2 → Going p s w′ path′ ps′ y
+      stop-short w′ path′ ps′ y long st b es ec =
+          goes-no-further w′ path′ ps′ long (g .few) y _ st leaf-ok (rw (leaf .counts-same) (g .allocated-most)) es
           (rw ec (ends-short G P S p (g .at) leads more′ unsolved b)) (λ c. absurd (omega arith))
 
       module _ (enough : machine.short G P S t ≡ false) where

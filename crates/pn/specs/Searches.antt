@@ -64,6 +64,7 @@ ranges-long w v s long r = record {
   interval-some = r .interval-some;
   budget-most = r .budget-most;
   rule-few = r .rule-few;
+  stay-in-range = r .stay-in-range;
 }
 
 -- the state with which the loop begins

@@ -95,13 +95,13 @@ module _ {w path ps : List ℕ} {x : Running} {s : Settings} {root : ℕ} (u : U
   abbrev S : machine.Settings
   S = machineSettings w s
 
-  pub stepped-short : (path′ ps′ : List ℕ) (r : Running)
-      → Stands (s .rule) (u .from .start .side) w path′ ps′ (r .prover) (machine.toLeaf G P (u .from .going .at))
+  pub stepped-short : (w′ path′ ps′ : List ℕ) (r : Running) → length w′ ≡ length w → Beyond w w′
+      → Stands (s .rule) (u .from .start .side) w′ path′ ps′ (r .prover) (machine.toLeaf G P (u .from .going .at))
       → machine.short G P S (machine.toLeaf G P (u .from .going .at)) ≡ true
-      → r .stop ≡ true → r .cause ≡ 2 → Stepped (u .from .start) s x w w path′ ps′ r
-  stepped-short path′ ps′ r st t es ec = record {
-    going = stop-short (u .from .start) s w path ps x (u .from .going) (u .from .ranges) (u .from .on) (u .unsolved) (u .more) path′ ps′ r st t es ec;
-    past = λ j l. refl;
+      → r .stop ≡ true → r .cause ≡ 2 → Stepped (u .from .start) s x w w′ path′ ps′ r
+  stepped-short w′ path′ ps′ r long past st t es ec = record {
+    going = stop-short (u .from .start) s w path ps x (u .from .going) (u .from .ranges) (u .from .on) (u .unsolved) (u .more) w′ path′ ps′ r long st t es ec;
+    past = past;
     less = less-stopped x r s (u .from .on) es;
   }
 

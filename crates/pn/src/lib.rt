@@ -30,6 +30,7 @@ use positions::POSITIONS;
 use prove::Bounds;
 use prove::Evaluation;
 use prover::Prover;
+use stay::Stay;
 
 // What a search is given beside its position and its pool.
 pub struct Settings {
@@ -37,6 +38,7 @@ pub struct Settings {
     pub limit: u64,
     pub budget: u64,
     pub interval: u64,
+    pub stay: Stay,
 }
 
 // A search between two rounds: its state, what is left to the next interval-th expansion, and whether it has stopped, with the cause.
@@ -190,7 +192,8 @@ fn round(
     ensures room { λ _. ⌜ length (now (todo .exit)) ≡ plies ⌝ }
     ensures { λ r. ⌜ ((u : Unsolved (now (words .entry)) (now (path .entry)) (now (positions .entry)) x s attacker) → Stepped (u .from .start) s x (now (words .entry)) (now (words .exit)) (now (path .exit)) (now (positions .exit)) r) ⌝ }
 {
-    let leaf = descend::descend(table, words, path, positions, x.prover);
+    let stay = s.stay;
+    let leaf = descend::descend(table, words, path, positions, x.prover, stay);
     if room::is_short(table, words, positions, leaf, s.rule, attacker) {
         return Running {
             prover: leaf,

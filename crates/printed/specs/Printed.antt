@@ -5,6 +5,7 @@ use Prim.Native.Nat.{ℕ, zero, suc, _+_, _*_, _/_, _%_}
 use lib.Dec.{eqb, ltb}
 use lib.ListN.{length, take, getD}
 use Rattle.machine.specs.Machine.{Result, Verdict, True, False, Unknown}
+use Rattle.stay.specs.declared.Stay.the-variants.{Off}
 use Rattle.searches.specs.Searches.{Limits, limits, Searched, Answered, Refused, searchCall}
 
 -- One byte.
@@ -53,12 +54,12 @@ unfoldable pub answerLine : Searched → List ℕ
 answerLine (Answered r) = fieldsLine r
 answerLine (Refused n) = refusedLine n
 
--- judge's pool in words, five a node; its limit, budget and interval.
+-- judge's pool in words, five a node; its limit, budget and interval; it does not stay on a line.
 abbrev pub judgeWords : ℕ
 judgeWords = 3276 * 5
 
 abbrev pub judgeLimits : Limits
-judgeLimits = limits 18446744073709551615 100000 10000
+judgeLimits = limits 18446744073709551615 100000 10000 Off
 
 -- 21 record bytes and one rule byte are searched; an input of another length is refused as a record is.
 unfoldable pub judgeLine : List ℕ → List ℕ

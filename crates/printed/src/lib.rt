@@ -13,6 +13,7 @@ use pn::SearchResult;
 use prove::Evaluation;
 use searches::Outcome;
 use searches::SearchLimits;
+use stay::Stay;
 
 // What judge gives a search: the pool's words, five a node, and the limits.
 const WORDS: usize = 16380;
@@ -162,6 +163,7 @@ fn put_answer(out: &mut [u8], bytes: &[u8], rule: u8) -> usize
         limit: LIMIT,
         budget: BUDGET,
         interval: INTERVAL,
+        stay: Stay::Off,
     };
     let outcome = searches::search(bytes, &mut pool, rule as u64, limits);
     put_outcome(out, outcome)

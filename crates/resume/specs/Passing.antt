@@ -10,6 +10,7 @@ use lib.ListN.{length}
 use Rattle.rules.specs.Rules.{Position}
 use Rattle.machine.specs.Machine as machine
 use Rattle.plain.specs.Plain.{searchOf}
+use Rattle.stay.specs.Margin.{stayOf}
 use Rattle.words.specs.Words.{capacity}
 use Rattle.passes.specs.Passes.{OneGame, first, grantWith, unspentAfter}
 use Rattle.pn.specs.Results.{machineSettings, resultOf}
@@ -23,7 +24,7 @@ use Rattle.resume.specs.declared.Turn.{Turn}
 
 -- the game of p in a pool of these words; its share is the budget
 abbrev pub gameIn : List ℕ → Settings → Position → OneGame
-gameIn w s p = lone (s .rule) (capacity w) (s .limit) (s .interval) (s .budget) p
+gameIn w s p = lone (s .rule) (capacity w) (s .limit) (s .interval) (stayOf (s .stay)) (s .budget) p
 
 -- what the second pass of a game asks for
 pub record Passable (w : List ℕ) (k : Kept) (s : Settings) (unspent : ℕ) : Type 0 where
@@ -84,5 +85,12 @@ module _ {p : Position} {s : Settings} {w : List ℕ} {k : Kept} (h : Stopped p 
       stopped = h;
       spent = c;
       more = omega arith;
-      ranges = record { some = ranges .some; few = ranges .few; interval-some = ranges .interval-some; budget-most = omega (arith, spent-all); rule-few = ranges .rule-few };
+      ranges = record {
+        some = ranges .some;
+        few = ranges .few;
+        interval-some = ranges .interval-some;
+        budget-most = omega (arith, spent-all);
+        rule-few = ranges .rule-few;
+        stay-in-range = ranges .stay-in-range;
+      };
     }

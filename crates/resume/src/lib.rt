@@ -119,11 +119,13 @@ pub fn second(words: &mut [u32], k: Kept, s: Settings, unspent: u64) -> Turn
         };
     }
     let grant = s.budget + unspent;
+    let stay = s.stay;
     let more = Settings {
         rule: s.rule,
         limit: s.limit,
         budget: grant,
         interval: s.interval,
+        stay,
     };
     let last = go_on(words, k, more);
     let path = last.path;

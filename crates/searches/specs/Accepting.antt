@@ -8,13 +8,14 @@ use borrow.Author.Tests.{le-ltb}
 use lib.ListN.{length}
 use Rattle.rules.specs.Record.{positionOf, refusal, Accepted}
 use Rattle.rules.specs.Checks.{loads, loads-accepted}
-use Rattle.rules.specs.RefusalLaws.{none-refuses}
+use Rattle.rules.specs.RefusalLaws.{none-refuses, passes-need}
 use Rattle.game.specs.Words.{Holds}
 use Rattle.machine.specs.Reached.{PoolInRange}
 use Rattle.plain.specs.Plain.{plainSearch}
 use Rattle.pn.specs.Searches.{Searchable}
 use Rattle.pn.specs.Results.{resultOf}
 use Rattle.pn.specs.declared.SearchResult.{SearchResult}
+use Rattle.stay.specs.Margin.{StayInRange}
 use Rattle.calls.specs.Calls.{lastRule}
 use Rattle.calls.specs.Refusing.{passes-test}
 use Rattle.searches.specs.Searches.{Limits, intervalLeast, intervalMost, budgetMost, nodes, settings, searchRefusal, Untouched}
@@ -26,6 +27,7 @@ pub record Accepts (bytes : List ℕ) (words rule : ℕ) (L : Limits) : Type 0 w
   pub interval-least : intervalLeast ≤ L .interval
   pub interval-most : L .interval ≤ intervalMost
   pub budget-most : L .budget ≤ budgetMost
+  pub stay-in-range : StayInRange (L .stay)
 
 pub accepts : (bytes : List ℕ) (words rule : ℕ) (L : Limits) → searchRefusal bytes (nodes words) rule L ≡ 0 → Accepts bytes words rule L
 unfolding searchRefusal
@@ -44,6 +46,7 @@ accepts bytes words rule L e =
       interval-least = interval-least .0;
       interval-most = interval-most .0;
       budget-most = budget-most .0;
+      stay-in-range = passes-need 20 _ (none-refuses _ _ (budget-most .1) .0);
     }
 
 -- the checks of a pool whose capacity has been counted
@@ -75,7 +78,7 @@ SearchesPassed g rule L w v r =
 
 -- what the search asks for, once every check is passed
 pub to-search : (bytes g w : List ℕ) (rule : ℕ) (L : Limits) → Passed bytes g (length w) rule L
-    → Searchable g w (record { rule = rule; limit = L .limit; budget = L .budget; interval = L .interval })
+    → Searchable g w (record { rule = rule; limit = L .limit; budget = L .budget; interval = L .interval; stay = L .stay })
 to-search bytes g w rule L h =
     let a = accepts bytes (length w) rule L (h .none) in
     record {
@@ -92,5 +95,6 @@ to-search bytes g w rule L h =
         interval-some = omega (arith, a .interval-least);
         budget-most = a .budget-most;
         rule-few = omega (arith, a .rule-most);
+        stay-in-range = a .stay-in-range;
       };
     }

@@ -1,4 +1,4 @@
--- What each case of the answers of search and full verdict says, and the numbers of SearchLimits. Rests on Searches and on the nine fields as the machine has them.
+-- What each case of the answers of search and full verdict says, and what SearchLimits holds. Rests on Searches and on the nine fields as the machine has them.
 use Rattle.pn.specs.Results.{resultOf}
 use Rattle.searches.specs.Searches as calls
 use Rattle.searches.specs.Searches.{Limits, Searched, Judged}
@@ -12,7 +12,7 @@ use Rattle.searches.specs.declared.FullOutcome.the-variants.{Full, Turne
 
 -- What a search is given.
 abbrev pub limitsOf : SearchLimits → Limits
-limitsOf l = record { limit = l .limit; budget = l .budget; interval = l .interval }
+limitsOf l = record { limit = l .limit; budget = l .budget; interval = l .interval; stay = l .stay }
 
 -- The answer of search.
 abbrev pub searched : Outcome → Searched

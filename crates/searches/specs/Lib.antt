@@ -5,7 +5,10 @@ pub mod SearchAnswers
 pub mod Pools
 pub mod ThirdCondition
 pub mod TwoSearches
+pub mod StayStatement
+pub mod Staying
 pub mod UnknownAnswers
 pub mod RefereeAgrees
 pub mod StepThree
 pub mod NodesNeeded
+pub mod StayCases

@@ -34,7 +34,7 @@ unfolding searchForMoves searchOf
 as-before rule S bytes v =
     let p = positionOf bytes in
     let G = gameOf rule p in
-    asking-no-more G (askingForMoves G) (policyOf rule (p .side)) (policy-asks-no-more rule (p .side)) S p v
+    asking-no-more G (askingForMoves G (S .stay)) (policyOf rule (p .side) (S .stay)) (policy-asks-no-more rule (p .side) (S .stay)) S p v
 
 -- A case under each rule
 under-each : (words : ℕ) → searchRefusal W (nodes words) 0 (judging 1) ≡ 0 → searchRefusal W (nodes words) 1 (judging 1) ≡ 0 → searchRefusal W (nodes words) 2 (judging 1) ≡ 0

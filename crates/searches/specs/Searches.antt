@@ -1,6 +1,7 @@
 -- What search and full verdict answer and what they leave in the pool, as functions of what comes in. The checks stand in their order (MANUAL, Calls;
--- Turned back). Rests on the record's checks and on the plain machine of a record.
+-- Turned back). Rests on the record's checks, on the setting's range, and on the plain machine of a record.
 use mathlib.Core.Path.{_≡_}
+use mathlib.Core.Bool.{not}
 use mathlib.Core.List.{List, [], _∷_}
 use Prim.Native.Nat.{ℕ, _*_, _/_}
 use lib.Dec.{ltb}
@@ -9,6 +10,8 @@ use Rattle.rules.specs.Record.{refusal}
 use Rattle.rules.specs.Refusals.{refuses, firstRefusal}
 use Rattle.machine.specs.Machine.{Settings, Result, Verdict, True, False, Unknown}
 use Rattle.plain.specs.Plain.{plainSearch}
+use Rattle.stay.specs.declared.Stay.{Stay}
+use Rattle.stay.specs.Margin.{stayInRange, stayOf}
 use Rattle.calls.specs.Calls.{lastRule, answerUnless}
 
 -- The ends of the ranges: pool in nodes, interval, budget.
@@ -29,10 +32,10 @@ budgetMost = 1000000000000
 
 -- What comes in beside the record, the rule and the pool.
 abbrev pub Limits : Type 0
-Limits = record { limit : ℕ; budget : ℕ; interval : ℕ }
+Limits = record { limit : ℕ; budget : ℕ; interval : ℕ; stay : Stay }
 
-abbrev pub limits : (limit budget interval : ℕ) → Limits
-limits limit budget interval = record { limit = limit; budget = budget; interval = interval }
+abbrev pub limits : (limit budget interval : ℕ) → Stay → Limits
+limits limit budget interval stay = record { limit = limit; budget = budget; interval = interval; stay = stay }
 
 -- A pool's capacity in nodes, from its length in words, five a node.
 abbrev pub nodes : ℕ → ℕ
@@ -40,10 +43,10 @@ nodes words = words / 5
 
 -- The machine's settings: the pool as a number of nodes, never its words.
 abbrev pub settings : ℕ → Limits → Settings
-settings words L = record { pool = nodes words; limit = L .limit; budget = L .budget; interval = L .interval }
+settings words L = record { pool = nodes words; limit = L .limit; budget = L .budget; interval = L .interval; stay = stayOf (L .stay) }
 
--- The checks of a search, in their order: the record's; no node in the pool, or too many; a rule, an interval or a budget out of its range. The number of the
--- first that refuses, or 0. The pool comes in as its capacity, in nodes.
+-- The checks of a search, in their order: the record's; no node in the pool, or too many; a rule, an interval or a budget out of its range; a margin that is
+-- none. The number of the first that refuses, or 0. The pool comes in as its capacity, in nodes.
 unfoldable pub searchRefusal : (bytes : List ℕ) (capacity rule : ℕ) → Limits → ℕ
 searchRefusal bytes capacity rule L =
     firstRefusal (
@@ -54,6 +57,7 @@ searchRefusal bytes capacity rule L =
     ∷ refuses 10 (ltb (L .interval) intervalLeast)
     ∷ refuses 10 (ltb intervalMost (L .interval))
     ∷ refuses 10 (ltb budgetMost (L .budget))
+    ∷ refuses 21 (not (stayInRange (L .stay)))
     ∷ []
     )
 

@@ -7,26 +7,27 @@ use Rattle.rules.specs.Rules.{Player, Position}
 use Rattle.rules.specs.Record.{positionOf}
 use Rattle.rules.specs.Examples.{W}
 use Rattle.machine.specs.Tree.{size}
-use Rattle.machine.specs.Machine.{Settings, Result, fields, True, Unknown, children, search}
+use Rattle.machine.specs.Machine.{Stay, Settings, Result, fields, True, Unknown, children, search}
 use Rattle.machine.specs.Needs.{askingForMoves}
 use Rattle.plain.specs.Plain.{game, gameOf, policyOf, recordSequences}
+use Rattle.stay.specs.declared.Stay.the-variants.{Off}
 use Rattle.calls.specs.Calls.{lastRule}
 use Rattle.searches.specs.Searches.{Limits, limits, nodes, settings, Answered, searchCall, FullVerdict, Full, fullCall}
 
 -- The machine's result for a record where step 3 asks for as many nodes as the leaf has legal moves, and all else is the plain machine's.
 unfoldable pub searchForMoves : ℕ → Settings → List ℕ → Result
-searchForMoves rule S bytes = let p = positionOf bytes in search (gameOf rule p) (askingForMoves (gameOf rule p)) S p
+searchForMoves rule S bytes = let p = positionOf bytes in search (gameOf rule p) (askingForMoves (gameOf rule p) (S .stay)) S p
 
 -- A pool of so many nodes, in words; the program judge's limit and interval, with a budget.
 abbrev pub pool : ℕ → ℕ
 pool n = n * 5
 
 abbrev pub judging : ℕ → Limits
-judging budget = limits 18446744073709551615 budget 10000
+judging budget = limits 18446744073709551615 budget 10000 Off
 
 pub record StepThree : Type 0 where
-  -- Step 3 needs the children that step 4 would make at that leaf, under every rule and for either side at the root.
-  pub needs : (rule : ℕ) (root : Player) (p : Position) → policyOf rule root .need p ≡ size (children (game rule root) p)
+  -- Step 3 needs the children that step 4 would make at that leaf, under every rule, for either side at the root and with every setting.
+  pub needs : (rule : ℕ) (root : Player) (y : Stay) (p : Position) → policyOf rule root y .need p ≡ size (children (game rule root) p)
   -- W, with budget 1, is answered with a pool of 2 nodes, and with 1 stops with cause 2.
   pub W-two : (rule : ℕ) → rule ≤ lastRule → searchCall W (pool 2) rule (judging 1) ≡ Answered (fields True 0 2147483648 2 1 1 0 1 0)
   pub W-one : (rule : ℕ) → rule ≤ lastRule → searchCall W (pool 1) rule (judging 1) ≡ Answered (fields Unknown 1 1 1 0 0 0 0 2)

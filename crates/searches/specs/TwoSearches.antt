@@ -30,7 +30,7 @@ third-condition bytes rule S T words words′ r s e f =
       first-false = h .first .false-value;
       second-true = h .second .true-value;
       second-false = h .second .false-value;
-      alike = λ i p l g. h .alike (record { interval = i; pool = p; limit = l; budget = g });
+      alike = λ i y p l g. h .alike (record { interval = i; pool = p; limit = l; budget = g }) y;
       first-unknown = not-zero _ _ (h .first .unknown);
       second-unknown = not-zero _ _ (h .second .unknown);
       first-decided = h .first .decided;

@@ -20,6 +20,7 @@ use pn::SearchResult;
 use pn::Settings;
 use prove::Evaluation;
 use record::Loaded;
+use stay::Stay;
 
 // The ends of search's ranges: nodes of the pool, interval, budget.
 pub const LEAST_NODES: usize = 1;
@@ -37,6 +38,7 @@ pub struct SearchLimits {
     pub limit: u64,
     pub budget: u64,
     pub interval: u64,
+    pub stay: Stay,
 }
 
 // The answer of search: the result, or the check that turned the call back.
@@ -52,6 +54,7 @@ pub fn accept(bytes: &[u8], nodes: usize, rule: u64, l: SearchLimits) -> Loaded
 {
     let loaded = record::load(bytes);
     let game = loaded.game;
+    let stay = l.stay;
     let checks = [
         loaded.code,
         refusals::refuses(8, nodes < LEAST_NODES),
@@ -60,6 +63,7 @@ pub fn accept(bytes: &[u8], nodes: usize, rule: u64, l: SearchLimits) -> Loaded
         refusals::refuses(10, l.interval < LEAST_INTERVAL),
         refusals::refuses(10, l.interval > MOST_INTERVAL),
         refusals::refuses(10, l.budget > MOST_BUDGET),
+        refusals::refuses(21, !stay::in_range(stay)),
     ];
     Loaded {
         code: refusals::first(&checks),
@@ -72,11 +76,13 @@ pub fn search_accepted(start: Game, words: &mut [u32], rule: u64, l: SearchLimit
     requires { ⌜ ((bytes : List ℕ) × Passed bytes (start .words) (length (now words)) rule (limitsOf l)) ⌝ }
     ensures { λ r. ⌜ SearchesPassed (start .words) rule (limitsOf l) (now (words .entry)) (now (words .exit)) r ⌝ }
 {
+    let stay = l.stay;
     let s = Settings {
         rule,
         limit: l.limit,
         budget: l.budget,
         interval: l.interval,
+        stay,
     };
     pn::search(words, start, s)
 }

@@ -1,5 +1,6 @@
 -- The cases of MANUAL, Positions to try, that are proved from the definitions, in one lemma, with ours. Rests on Calls and Searches, on plain's Cases
--- for the records E, W and D and for the plain machine's results, on RoomCases, GamesCases, and on the Cases of meaning, sheets, book, passes, games_checks and cells.
+-- for the records E, W and D and for the plain machine's results, on RoomCases, GamesCases, StayCases, and on the Cases of stay, meaning, sheets, book, passes, games_checks
+-- and cells.
 use mathlib.Core.Path.{_≡_, refl}
 use mathlib.Core.List.{List, [], _∷_, _++_}
 use Prim.Native.Nat.{ℕ}
@@ -24,6 +25,8 @@ use Rattle.cells.specs.Cases.{WordsCases, words-cases}
 use Rattle.sheets.specs.Cases.{SheetsCases, sheets-cases}
 use Rattle.searches.specs.SearchAnswers.{search-answered, full-with}
 use Rattle.searches.specs.StepThree.{pool, judging}
+use Rattle.searches.specs.StayCases.{StayAnswers, stay-answers}
+use Rattle.stay.specs.Cases.{MarginCases, margin-cases}
 use Rattle.searches.specs.Searches.{Limits, nodes, settings, searchRefusal, Refused, Answered, searchCall, fullOf, Draw, AtLeastDraw, Full, Turned, fullCall}
 use Rattle.games_checks.specs.Cases.{ChecksCases, checks-cases}
 use Rattle.ultimattt.specs.GamesCases.{GamesCases, games-cases}
@@ -95,6 +98,9 @@ pub record Cases : Type 0 where
   -- ours: step 3 at small pools, with the fewest nodes that a search answers with, and one less
   pub room : RoomAnswers
   pub full-short : fullCall last-x (pool 2) (judging 100000) ≡ Full AtLeastDraw short-at-once (fields True 0 2147483648 2 1 1 0 1 0)
+  -- staying on a line: which floats are margins, an ending with and without, and check 21
+  pub margins : MarginCases
+  pub staying : StayAnswers
   -- two sheets: the cases of crate sheets
   pub sheets : SheetsCases
   -- a book of verdicts: the cases of crate book
@@ -151,6 +157,8 @@ cases = record {
   D-rule-2 = refl;
   room = room-answers;
   full-short = room-cases.full-short;
+  margins = margin-cases;
+  staying = stay-answers;
   sheets = sheets-cases;
   book = book-cases;
   trainers = trainer-cases;

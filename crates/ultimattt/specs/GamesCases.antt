@@ -10,6 +10,8 @@ use Rattle.machine.specs.Machine.{Result, True, False, Unknown}
 use Rattle.plain.specs.Cases.{record21, E, W, D, fields, computedSearch}
 use Rattle.plain.specs.Oracle.{ending-x}
 use Rattle.passes.specs.Passes.{total, unspentAt}
+use Rattle.stay.specs.declared.Stay.the-variants.{Off}
+use Rattle.searches.specs.StayCases.{C, by-bits}
 use Rattle.games_checks.specs.Checks.{Common, common, numberRefusal, earlier, earliest, lowest, settingsRefusal}
 use Rattle.games.specs.Games.{noResult, refused, gamesCall}
 
@@ -22,7 +24,7 @@ eight shares = shares ++ replicate (8 - length shares) 18446744073709551615
 
 -- Rule 0 and no limit, with judge's interval.
 abbrev unlimited : (allowance : ℕ) → Common
-unlimited allowance = common 0 18446744073709551615 allowance 10000
+unlimited allowance = common 0 18446744073709551615 allowance 10000 Off
 
 abbrev Judges : (bytes : List ℕ) (nodes : ℕ) (shares : List ℕ) → Common → List Result → Type 0
 Judges bytes nodes shares C rs = gamesCall bytes (words nodes) (eight shares) C ≡ record { number = 0; index = 0; count = length rs; results = rs ++ replicate (8 - length rs) noResult }
@@ -72,9 +74,9 @@ pub record GamesCases : Type 0 where
       (lost ∷ won ∷ lost ∷ won ∷ lost ∷ won ∷ lost ∷ fields Unknown 1 1 1 0 0 0 0 1 ∷ [])
   -- stopped by its part or by its limit in the first pass, a game does not go on
   pub part-short : Judges (A ++ W) 8 (5 ∷ 0 ∷ []) (unlimited 9) (fields Unknown 1 1 1 0 0 0 0 2 ∷ won ∷ [])
-  pub over-limit : Judges A 12 (5 ∷ []) (common 0 5 9 1) (fields Unknown 1 4 6 0 0 0 2 3 ∷ [])
+  pub over-limit : Judges A 12 (5 ∷ []) (common 0 5 9 1 Off) (fields Unknown 1 4 6 0 0 0 2 3 ∷ [])
   -- in the second pass the limit is tested on every interval-th expansion of the game, counted from its start
-  pub counted-on : Judges A 12 (2 ∷ []) (common 0 5 9 3) (fields Unknown 1 4 7 0 0 0 3 3 ∷ [])
+  pub counted-on : Judges A 12 (2 ∷ []) (common 0 5 9 3 Off) (fields Unknown 1 4 7 0 0 0 3 3 ∷ [])
   -- shares that sum to the allowance, and above it by one
   pub sum-equal : Judges (W ++ D) 4 (1 ∷ 2 ∷ []) (unlimited 3) (won ∷ lost ∷ [])
   pub sum-above : Refuses (W ++ D) 4 (1 ∷ 3 ∷ []) (unlimited 3) 20 0
@@ -85,11 +87,14 @@ pub record GamesCases : Type 0 where
   -- two refused records with different checks; a record before the pool, the pool before the settings
   pub earlier-check : Refuses (record21 0x7A0000000000000000000000000000000000000000 ++ E ++ record21 0x780000000000000000000000000000000000000001) 0 (1 ∷ 1 ∷ 1 ∷ []) (unlimited 0) 2 2
   pub lower-game : Refuses (E ++ record21 0x7A0000000000000000000000000000000000000000 ++ record21 0x7A0000000000000000000000000000000000000000) 0 (1 ∷ 1 ∷ 1 ∷ []) (unlimited 0) 3 1
-  pub part-of-none : Refuses (W ++ D) 1 (1 ∷ 1 ∷ []) (common 3 0 0 0) 8 0
-  pub rule-3 : Refuses (W ++ D) 2 (1 ∷ 1 ∷ []) (common 3 0 0 1) 10 0
+  pub part-of-none : Refuses (W ++ D) 1 (1 ∷ 1 ∷ []) (common 3 0 0 0 Off) 8 0
+  pub rule-3 : Refuses (W ++ D) 2 (1 ∷ 1 ∷ []) (common 3 0 0 1 Off) 10 0
+  -- C with margin 0: the setting holds in both passes; one that is no margin, before the sum of the shares
+  pub staying-on : Judges C 15 (3 ∷ []) (common 0 18446744073709551615 9 10000 (by-bits 0x0000000000000000)) (fields True 0 2147483648 15 14 4 4 9 0 ∷ [])
+  pub not-a-margin : Refuses (W ++ D) 4 (1 ∷ 3 ∷ []) (common 0 0 3 1 (by-bits 0x3F60000000000000)) 21 0
 
 pub games-cases : GamesCases
-unfolding hasLine state board boardStates gameState bitAt positionOf positionRefusal refusal firstRefusal computedSearch total unspentAt numberRefusal earlier earliest lowest settingsRefusal gamesCall
+unfolding hasLine state board boardStates gameState bitAt positionOf positionRefusal refusal firstRefusal computedSearch total unspentAt numberRefusal earlier earliest lowest settingsRefusal gamesCall by-bits
 games-cases = record {
   one = refl;
   one-goes-on = refl;
@@ -110,4 +115,6 @@ games-cases = record {
   lower-game = refl;
   part-of-none = refl;
   rule-3 = refl;
+  staying-on = refl;
+  not-a-margin = refl;
 }

@@ -3,6 +3,7 @@
 ghost use mathlib.Core.Path.{_≡_};
 ghost use mathlib.Core.Bool.{false};
 ghost use lib.ListN.{length};
+ghost use Rattle.stay.specs.Margin.{given};
 ghost use Rattle.searches.specs.Searches.{limits};
 ghost use Rattle.entries.specs.Entries.{callerOf};
 ghost use Rattle.book.specs.Book.{bookOf, bookOutcome, lookupCall, addCall, publishCall, PoolAfterAdd};
@@ -68,16 +69,22 @@ pub extern "C" fn uttt_book_add(
     limit: u64,
     budget: u64,
     interval: u64,
+    staying: bool,
+    margin: f64,
 ) -> AddAnswer
-    ensures { λ r. ⌜ (let o = addCall (callerOf trainer) (now (bytes .entry)) (length (now (words .entry))) rule (limits limit budget interval) (bookOf (now (book .entry)) count) in
+    ensures { λ r. ⌜ (let o = addCall (callerOf trainer) (now (bytes .entry)) (length (now (words .entry))) rule
+        (limits limit budget interval (given staying margin)) (bookOf (now (book .entry)) count) in
         bookOutcome (r .code) (r .index) (r .verdict) (o .searched) (bookOf (now (book .exit)) (r .count)) ≡ o) ⌝ }
-    ensures pool { λ r. ⌜ (let o = addCall (callerOf trainer) (now (bytes .entry)) (length (now (words .entry))) rule (limits limit budget interval) (bookOf (now (book .entry)) count) in
+    ensures pool { λ r. ⌜ (let o = addCall (callerOf trainer) (now (bytes .entry)) (length (now (words .entry))) rule
+        (limits limit budget interval (given staying margin)) (bookOf (now (book .entry)) count) in
         PoolAfterAdd (o .searched) (now (words .entry)) (now (words .exit))) ⌝ }
 {
+    let stay = stay::given(staying, margin);
     let l = SearchLimits {
         limit,
         budget,
         interval,
+        stay,
     };
     let who = entries::caller_of(trainer);
     let answer = book::add(who, book, count as usize, bytes, words, rule, l);

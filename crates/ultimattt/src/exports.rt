@@ -6,6 +6,7 @@ ghost use Rattle.game.specs.Numbers.{errorNumber};
 ghost use Rattle.pn.specs.Results.{resultOf};
 ghost use Rattle.calls.specs.Calls.{replayOutcome, movesOutcome, refereeOutcome, replayCall, movesCall, refereeCall};
 ghost use Rattle.sheets.specs.Sheets.{sheetsOutcome, sheetsCall};
+ghost use Rattle.stay.specs.Margin.{given};
 ghost use Rattle.searches.specs.Searches.{limits, searchCall, PoolAfter, fullCall, PoolAfterFull};
 ghost use Rattle.searches.specs.Answers.{fullVerdict};
 ghost use Rattle.ultimattt.specs.Exports.{fields, fieldsOf, noFields, searchNumbers, searchedNumbers, fullNumber, fullNumbers, judgedNumbers};
@@ -175,7 +176,8 @@ pub fn no_fields() -> ResultFields
     }
 }
 
-// The answer of search as C has it: code is 0 or the refusal's number; index is 0; the result's fields, all 0 with a refusal.
+// The answer of search as C has it: code is 0 or the refusal's number; index is 0; the result's fields, all 0 with a refusal. The margin of a search is not read
+// if it is not staying.
 #[repr(C)]
 pub struct SearchAnswer {
     pub code: u32,
@@ -191,14 +193,19 @@ pub extern "C" fn uttt_search(
     limit: u64,
     budget: u64,
     interval: u64,
+    staying: bool,
+    margin: f64,
 ) -> SearchAnswer
-    ensures { λ r. ⌜ searchNumbers r ≡ searchedNumbers (searchCall (now (bytes .entry)) (length (now (words .entry))) rule (limits limit budget interval)) ⌝ }
-    ensures pool { λ r. ⌜ PoolAfter (searchCall (now (bytes .entry)) (length (now (words .entry))) rule (limits limit budget interval)) (now (words .entry)) (now (words .exit)) ⌝ }
+    ensures { λ r. ⌜ searchNumbers r ≡ searchedNumbers (searchCall (now (bytes .entry)) (length (now (words .entry))) rule (limits limit budget interval (given staying margin))) ⌝ }
+    ensures pool { λ r. ⌜ PoolAfter (searchCall (now (bytes .entry)) (length (now (words .entry))) rule (limits limit budget interval (given staying margin)))
+        (now (words .entry)) (now (words .exit)) ⌝ }
 {
+    let stay = stay::given(staying, margin);
     let l = SearchLimits {
         limit,
         budget,
         interval,
+        stay,
     };
     let outcome = searches::search(bytes, words, rule, l);
     match outcome {
@@ -247,14 +254,19 @@ pub extern "C" fn uttt_full_verdict(
     limit: u64,
     budget: u64,
     interval: u64,
+    staying: bool,
+    margin: f64,
 ) -> FullAnswer
-    ensures { λ r. ⌜ fullNumbers r ≡ judgedNumbers (fullCall (now (bytes .entry)) (length (now (words .entry))) (limits limit budget interval)) ⌝ }
-    ensures pool { λ r. ⌜ PoolAfterFull (fullCall (now (bytes .entry)) (length (now (words .entry))) (limits limit budget interval)) (now (words .entry)) (now (words .exit)) ⌝ }
+    ensures { λ r. ⌜ fullNumbers r ≡ judgedNumbers (fullCall (now (bytes .entry)) (length (now (words .entry))) (limits limit budget interval (given staying margin))) ⌝ }
+    ensures pool { λ r. ⌜ PoolAfterFull (fullCall (now (bytes .entry)) (length (now (words .entry))) (limits limit budget interval (given staying margin)))
+        (now (words .entry)) (now (words .exit)) ⌝ }
 {
+    let stay = stay::given(staying, margin);
     let l = SearchLimits {
         limit,
         budget,
         interval,
+        stay,
     };
     let outcome = searches::full_verdict(bytes, words, l);
     match outcome {

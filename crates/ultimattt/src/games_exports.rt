@@ -4,6 +4,7 @@ ghost use mathlib.Core.Path.{_≡_};
 ghost use mathlib.Core.List.{map};
 ghost use lib.ListN.{length};
 ghost use Rattle.pn.specs.Results.{resultOf};
+ghost use Rattle.stay.specs.Margin.{given};
 ghost use Rattle.games_checks.specs.Checks.{games, common};
 ghost use Rattle.games.specs.Games.{gamesCall, PoolAfterGames};
 ghost use Rattle.ultimattt.specs.Exports.{fields, fieldsOf};
@@ -50,15 +51,20 @@ pub extern "C" fn uttt_judge_games(
     limit: u64,
     allowance: u64,
     interval: u64,
+    staying: bool,
+    margin: f64,
 ) -> GamesAnswer
-    ensures { λ r. ⌜ gamesNumbers r ≡ outcomeNumbers (gamesCall (now (bytes .entry)) (length (now (words .entry))) (now (shares .entry)) (common rule limit allowance interval)) ⌝ }
+    ensures { λ r. ⌜ gamesNumbers r ≡ outcomeNumbers (gamesCall (now (bytes .entry)) (length (now (words .entry))) (now (shares .entry))
+        (common rule limit allowance interval (given staying margin))) ⌝ }
     ensures pool { λ r. ⌜ PoolAfterGames (r .code) (games (now (bytes .entry))) (now (words .entry)) (now (words .exit)) ⌝ }
 {
+    let stay = stay::given(staying, margin);
     let c = Common {
         rule,
         limit,
         allowance,
         interval,
+        stay,
     };
     let answer = games::judge_games(bytes, words, shares, c);
     let results = answer.results;

@@ -3,3 +3,4 @@ pub mod Counted
 pub mod Compared
 pub mod Pools
 pub mod Lent
+pub mod Margins

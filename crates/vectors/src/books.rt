@@ -187,7 +187,7 @@ fn closed_after_add(got: AddAnswer, count: u64, words: usize) -> usize {
     searches::closed_from(got.code, words)
 }
 
-// `book add WHO RECORD RULE POOL-NODES LIMIT BUDGET INTERVAL => VERDICT COUNT`, from the pool on.
+// `book add WHO RECORD RULE POOL-NODES LIMIT BUDGET INTERVAL [MARGIN] => VERDICT COUNT`, from the pool on.
 fn add(
     s: &[u8],
     at: usize,
@@ -214,6 +214,8 @@ fn add(
         x.limit,
         x.budget,
         x.interval,
+        x.staying,
+        x.margin,
     );
     *count = got.count;
     put_entry(want, before, record, rule, got);

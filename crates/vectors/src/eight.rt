@@ -5,11 +5,13 @@ ghost use mathlib.Core.Bool.{true};
 use crate::answers;
 use crate::fields;
 use crate::line;
+use crate::margin;
 use crate::searches;
 use answers::Outcome;
 use answers::Stored;
 use fields::Place;
 use line::Number;
+use margin::Margin;
 use searches::Reading;
 use ultimattt::exports::ResultFields;
 use ultimattt::games_exports::GamesAnswer;
@@ -60,18 +62,15 @@ fn spell_shares(word: &[u8], shares: &mut [u64; 8]) -> bool {
     word.len() < at
 }
 
-// `S1,..,S8 =>`. The numbers are put into shares.
-fn read_shares(s: &[u8], at: usize, shares: &mut [u64; 8]) -> Place {
+// `S1,..,S8 [MARGIN] =>`. The numbers are put into shares.
+fn read_shares(s: &[u8], at: usize, shares: &mut [u64; 8]) -> Margin {
     let list = line::next_word(s, at);
     let start = list.start;
     let end = list.end;
-    let arrow = line::next_word(s, end);
     if spell_shares(&s[start..end], shares) {
-        if line::is_word(s, arrow, b"=>") {
-            return Place::At(arrow.end);
-        }
+        return margin::read(s, end);
     }
-    Place::Unreadable
+    Margin::Unreadable
 }
 
 // The results after a place, with bars between. Their fields are put into want, and the answer's number is how many they are.
@@ -132,7 +131,7 @@ fn closed_after(count: u64, words: usize) -> usize {
     ((nodes - nodes % count) * 5) as usize
 }
 
-// `eight RECORDS RULE POOL-NODES LIMIT ALLOWANCE INTERVAL S1,..,S8 => RESULTS`
+// `eight RECORDS RULE POOL-NODES LIMIT ALLOWANCE INTERVAL S1,..,S8 [MARGIN] => RESULTS`
 pub fn judge(s: &[u8], at: usize, records: &[u8]) -> Outcome {
     let Number::Value(rule, next) = line::read_number(s, at) else {
         return Outcome::Unreadable;
@@ -141,7 +140,7 @@ pub fn judge(s: &[u8], at: usize, records: &[u8]) -> Outcome {
         return Outcome::Unreadable;
     };
     let mut shares = [0u64; 8];
-    let Place::At(place) = read_shares(s, x.place, &mut shares) else {
+    let Margin::Read(m) = read_shares(s, x.place, &mut shares) else {
         return Outcome::Unreadable;
     };
     let words = x.words;
@@ -154,8 +153,10 @@ pub fn judge(s: &[u8], at: usize, records: &[u8]) -> Outcome {
         x.limit,
         x.budget,
         x.interval,
+        m.staying,
+        m.margin,
     );
-    let outcome = settle_games(s, place, got);
+    let outcome = settle_games(s, m.place, got);
     searches::if_also(
         outcome,
         fields::untouched(&pool, closed_after(got.count, words)),

@@ -73,7 +73,7 @@ pub fn is_word(s: &[u8], w: Word, asked: &[u8]) -> bool
 }
 
 // The value of a hexadecimal digit; 16 for any other byte.
-fn hex_value(b: u8) -> u8
+pub fn hex_value(b: u8) -> u8
     ensures { λ r. ⌜ r ≡ hexValue b ⌝ }
 {
     match b {

@@ -6,6 +6,7 @@ mod calls;
 mod eight;
 mod fields;
 mod line;
+mod margin;
 mod publishing;
 mod searches;
 
@@ -72,10 +73,10 @@ fn run_list(text: &[u8]) {
 }
 
 // What the list is read into.
-fn fresh_buffer() -> [u8; 524288]
-    ensures { λ r. ⌜ 524288 ≡ length r ⌝ }
+fn fresh_buffer() -> [u8; 655360]
+    ensures { λ r. ⌜ 655360 ≡ length r ⌝ }
 {
-    [0u8; 524288]
+    [0u8; 655360]
 }
 
 // A list that fills the buffer may go on after it: none of it is run.
@@ -83,7 +84,7 @@ fn main() {
     let mut buffer = fresh_buffer();
     let n = io::read_full(STDIN_FILENO, &mut buffer);
     if n == buffer.len() {
-        io::write_all(STDOUT_FILENO, b"the list has more than 524287 bytes\n");
+        io::write_all(STDOUT_FILENO, b"the list has more than 655359 bytes\n");
         return;
     }
     run_list(&buffer[..n]);

@@ -6,22 +6,26 @@ ghost use Rattle.vectors.specs.declared.answers.Outcome.the-variants.{Ag
 use crate::answers;
 use crate::fields;
 use crate::line;
+use crate::margin;
 use answers::Outcome;
 use answers::Stored;
 use fields::Place;
 use line::Number;
+use margin::Margin;
 use ultimattt::exports::FullAnswer;
 use ultimattt::exports::SearchAnswer;
 
 // The most nodes that a pool is lent with: `fields::fresh_pool` has five words for each, and four more.
 const MOST_NODES: u64 = 4096;
 
-// How many words of a pool are lent, the limits of a search, and the place after them.
+// How many words of a pool are lent, the limits of a search, its margin, and the place after them.
 pub struct Settings {
     pub words: usize,
     pub limit: u64,
     pub budget: u64,
     pub interval: u64,
+    pub staying: bool,
+    pub margin: f64,
     pub place: usize,
 }
 
@@ -30,7 +34,7 @@ pub enum Reading {
     Unreadable,
 }
 
-// `POOL-NODES LIMIT BUDGET INTERVAL`. Of a pool five words for each node are lent, and up to four more.
+// `POOL-NODES LIMIT BUDGET INTERVAL`, with the margin off. Of a pool five words for each node are lent, and up to four more.
 pub fn read_limits(s: &[u8], at: usize) -> Reading
     ensures { λ r. ⌜ Lendable r ⌝ }
 {
@@ -54,28 +58,31 @@ pub fn read_limits(s: &[u8], at: usize) -> Reading
         limit,
         budget,
         interval,
+        staying: false,
+        margin: 0.0,
         place,
     })
 }
 
-// `POOL-NODES LIMIT BUDGET INTERVAL =>`. The place is that after the arrow.
+// `POOL-NODES LIMIT BUDGET INTERVAL [MARGIN] =>`. The place is that after the arrow.
 pub fn read_settings(s: &[u8], at: usize) -> Reading
     ensures { λ r. ⌜ Lendable r ⌝ }
 {
     let Reading::Read(x) = read_limits(s, at) else {
         return Reading::Unreadable;
     };
-    let arrow = line::next_word(s, x.place);
-    if line::is_word(s, arrow, b"=>") {
-        return Reading::Read(Settings {
-            words: x.words,
-            limit: x.limit,
-            budget: x.budget,
-            interval: x.interval,
-            place: arrow.end,
-        });
-    }
-    Reading::Unreadable
+    let Margin::Read(m) = margin::read(s, x.place) else {
+        return Reading::Unreadable;
+    };
+    Reading::Read(Settings {
+        words: x.words,
+        limit: x.limit,
+        budget: x.budget,
+        interval: x.interval,
+        staying: m.staying,
+        margin: m.margin,
+        place: m.place,
+    })
 }
 
 // An outcome, if the rest agreed too.
@@ -122,7 +129,7 @@ fn settle_search(s: &[u8], at: usize, got: SearchAnswer) -> Outcome {
     if_also(outcome, fields::same(&want, &given))
 }
 
-// `search RECORD RULE POOL-NODES LIMIT BUDGET INTERVAL => FIELDS`
+// `search RECORD RULE POOL-NODES LIMIT BUDGET INTERVAL [MARGIN] => FIELDS`
 pub fn search(s: &[u8], at: usize, record: &[u8]) -> Outcome {
     let Number::Value(rule, next) = line::read_number(s, at) else {
         return Outcome::Unreadable;
@@ -139,6 +146,8 @@ pub fn search(s: &[u8], at: usize, record: &[u8]) -> Outcome {
         x.limit,
         x.budget,
         x.interval,
+        x.staying,
+        x.margin,
     );
     let outcome = settle_search(s, x.place, got);
     if_also(
@@ -204,7 +213,7 @@ fn settle_full(s: &[u8], at: usize, got: FullAnswer) -> Outcome {
     if_also(with_first, fields::same(&want_second, &given_second))
 }
 
-// `full RECORD POOL-NODES LIMIT BUDGET INTERVAL => VERDICT | FIELDS | FIELDS`
+// `full RECORD POOL-NODES LIMIT BUDGET INTERVAL [MARGIN] => VERDICT | FIELDS | FIELDS`
 pub fn full(s: &[u8], at: usize, record: &[u8]) -> Outcome {
     let Reading::Read(x) = read_settings(s, at) else {
         return Outcome::Unreadable;
@@ -217,6 +226,8 @@ pub fn full(s: &[u8], at: usize, record: &[u8]) -> Outcome {
         x.limit,
         x.budget,
         x.interval,
+        x.staying,
+        x.margin,
     );
     let outcome = settle_full(s, x.place, got);
     if_also(

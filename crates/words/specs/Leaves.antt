@@ -35,6 +35,6 @@ module _ (G : Game) (p : G .Pos) (m : ℕ) where
   unfolding leaf
   leaf-delta = by-value (G .final p) (G .mine p) (G .moves p) .1
 
-  pub leaf-packed : packed (view G) (leaf G p m) ≡ pack (verdictNumber (evaluated (G .final p) (G .moves p))) 0 (bit (not (G .mine p))) 0 m
+  pub leaf-packed : packed (view G) (leaf G p m) ≡ pack (verdictNumber (evaluated (G .final p) (G .moves p))) 0 (bit (not (G .mine p))) 0 m 255
   unfolding leaf packed
   leaf-packed = refl

@@ -8,7 +8,7 @@ use Rattle.machine.specs.Tree.{Node, Children, none, child, size}
 use Rattle.machine.specs.Machine.{Ancestor}
 use Rattle.machine.specs.Place.{pool-max, sizeAbove}
 use Rattle.machine.specs.Descent.{height}
-use Rattle.words.specs.Packed.{View, packed}
+use Rattle.words.specs.Packed.{View, packed, Bytes}
 use Rattle.words.specs.Words.{NONE, FIRST, SIBLING, word, capacity, Slot, Agree, Filled, slot-long}
 use Rattle.words.specs.Trees.{Held, Part, same, uses, same-yes, held-agree, part-only}
 use Rattle.words.specs.Free.{among, unused-yes, Spare, all-spare, leftFreed, Number, taken-free}
@@ -17,11 +17,11 @@ use Rattle.words.specs.Pool.{lineUses, Holding, holding-asks}
 use Rattle.words.specs.Current.{framed}
 
 -- The words of a leaf are the node's
-pub filled-held : {Pos : Type 0} (K : View Pos) (w v : List ℕ) (i first sibling : ℕ) (m : Node Pos) → Slot w i → m .move < 256 → Filled w v i (m .phi) (m .delta) (packed K m) first sibling → Held K v m i
+pub filled-held : {Pos : Type 0} (K : View Pos) (w v : List ℕ) (i first sibling : ℕ) (m : Node Pos) → Slot w i → Bytes m → Filled w v i (m .phi) (m .delta) (packed K m) first sibling → Held K v m i
 filled-held K w v i first sibling m s b f = record { slot = slot-long (f .only .long) s; byte = b; phi-is = f .phi-is; delta-is = f .delta-is; packed-is = f .packed-is }
 
 -- In front of a list of siblings that does not use its number
-pub filled-part : {Pos : Type 0} (K : View Pos) (w v : List ℕ) (i sibling : ℕ) (m : Node Pos) (ks : Children Pos) → Slot w i → m .move < 256 → Filled w v i (m .phi) (m .delta) (packed K m) NONE sibling
+pub filled-part : {Pos : Type 0} (K : View Pos) (w v : List ℕ) (i sibling : ℕ) (m : Node Pos) (ks : Children Pos) → Slot w i → Bytes m → Filled w v i (m .phi) (m .delta) (packed K m) NONE sibling
     → uses w ks sibling i ≡ 0 → Part K w ks sibling NONE → Part K v (child m none ks) i NONE × ((x : ℕ) → uses v (child m none ks) i x ≡ same i x + uses w ks sibling x)
 unfolding uses
 filled-part K w v i sibling m ks s b f z p =
@@ -32,7 +32,7 @@ filled-part K w v i sibling m ks s b f z p =
 
 -- The same where the words are known by equations
 pub filled-as : {Pos : Type 0} (K : View Pos) (w v : List ℕ) (i phi delta pack sibling : ℕ) (m : Node Pos) (ks : Children Pos) → Slot w i → Filled w v i phi delta pack NONE sibling
-    → m .phi ≡ phi → m .delta ≡ delta → packed K m ≡ pack → m .move < 256 → uses w ks sibling i ≡ 0 → Part K w ks sibling NONE → Part K v (child m none ks) i NONE
+    → m .phi ≡ phi → m .delta ≡ delta → packed K m ≡ pack → Bytes m → uses w ks sibling i ≡ 0 → Part K w ks sibling NONE → Part K v (child m none ks) i NONE
 filled-as K w v i phi delta pack sibling m ks s f p d k b z h =
     filled-part K w v i sibling m ks s b
     (record { only = f .only; phi-is = f .phi-is ∙ sym p; delta-is = f .delta-is ∙ sym d; packed-is = f .packed-is ∙ sym k; first-is = f .first-is; sibling-is = f .sibling-is }) z h .0
@@ -43,7 +43,7 @@ module _ {Pos : Type 0} (K : View Pos) (w path : List ℕ) (d head used : ℕ) (
   asks = holding-asks K w path d head used up n ks loose last h l
 
   -- Step 4: one child more, listed first
-  pub holding-made : (id head′ used′ : ℕ) → Number w head used asks id head′ used′ → (v : List ℕ) (m : Node Pos) → m .move < 256 → Filled w v id (m .phi) (m .delta) (packed K m) NONE last → suc d < plies
+  pub holding-made : (id head′ used′ : ℕ) → Number w head used asks id head′ used′ → (v : List ℕ) (m : Node Pos) → Bytes m → Filled w v id (m .phi) (m .delta) (packed K m) NONE last → suc d < plies
       → Holding K v path d head′ used′ up n ks (child m none loose) id
   unfolding uses size height holding-asks
   holding-made id head′ used′ t v m b f deep =
@@ -72,7 +72,7 @@ module _ {Pos : Type 0} (K : View Pos) (w path : List ℕ) (d head used : ℕ) (
 
 -- The start: the root alone, in a pool of any words
 pub holding-root : {Pos : Type 0} (K : View Pos) (w path : List ℕ) (some : 0 < capacity w) (few : capacity w ≤ pool-max) (id head′ used′ : ℕ) (t : Number w NONE 0 (all-spare w some few) id head′ used′)
-    (v : List ℕ) (m : Node Pos) → m .move < 256 → Filled w v id (m .phi) (m .delta) (packed K m) NONE NONE → getD path 0 0 ≡ id → Holding K v path 0 head′ used′ [] m none none NONE
+    (v : List ℕ) (m : Node Pos) → Bytes m → Filled w v id (m .phi) (m .delta) (packed K m) NONE NONE → getD path 0 0 ≡ id → Holding K v path 0 head′ used′ [] m none none NONE
 unfolding uses size height all-spare among lineUses sizeAbove
 holding-root K w path some few id head′ used′ t v m b f e = record {
   node = subst (λ (y : ℕ). Held K v m y) (sym e) (filled-held K w v id NONE NONE m (t .slot) b f);

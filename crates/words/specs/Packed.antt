@@ -6,12 +6,12 @@ use Prim.Native.Nat.{ℕ, _+_, _*_, _/_, _%_, _≤_, _<_}
 use native.Mathlib.Omega.{arith}
 use Rattle.machine.specs.Game.{Game}
 use Rattle.machine.specs.Tree.{Node}
-use Rattle.machine.specs.Machine.{Verdict, True, False, Unknown, opened}
+use Rattle.machine.specs.Machine.{Verdict, True, False, Unknown, opened, remember}
 use Rattle.prove.specs.Numbers.{verdictNumber}
 
--- Most significant first: value 2 bits, flags expanded, and, free, move 8 bits, 19 zeros
-abbrev pub pack : ℕ → ℕ → ℕ → ℕ → ℕ → ℕ
-pack value expanded and free move = ((((value * 2 + expanded) * 2 + and) * 2 + free) * 256 + move) * 524288
+-- Most significant first: value 2 bits, flags expanded, and, free, move 8 bits, remembered move 8 bits, 11 zeros
+abbrev pub pack : ℕ → ℕ → ℕ → ℕ → ℕ → ℕ → ℕ
+pack value expanded and free move remembered = (((((value * 2 + expanded) * 2 + and) * 2 + free) * 256 + move) * 256 + remembered) * 2048
 
 abbrev pub valueIn : ℕ → ℕ
 valueIn x = x / 1073741824
@@ -28,17 +28,25 @@ freeIn x = x / 134217728 % 2
 abbrev pub moveIn : ℕ → ℕ
 moveIn x = x / 524288 % 256
 
+abbrev pub rememberedIn : ℕ → ℕ
+rememberedIn x = x / 2048 % 256
+
+-- The same word with another remembered move
+abbrev pub withRemembered : ℕ → ℕ → ℕ
+withRemembered x move = x / 524288 * 524288 + move * 2048
+
 -- What was packed is read back
-pub record Read (x value expanded and free move : ℕ) : Type 0 where
+pub record Read (x value expanded and free move remembered : ℕ) : Type 0 where
   pub value-is : valueIn x ≡ value
   pub expanded-is : expandedIn x ≡ expanded
   pub and-is : andIn x ≡ and
   pub free-is : freeIn x ≡ free
   pub move-is : moveIn x ≡ move
+  pub remembered-is : rememberedIn x ≡ remembered
 
-pub unpack : (v e a f m : ℕ) → e ≤ 1 → a ≤ 1 → f ≤ 1 → m < 256 → Read (pack v e a f m) v e a f m
-unpack v e a f m he ha hf hm = record
-    { value-is = omega arith; expanded-is = omega arith; and-is = omega arith; free-is = omega arith; move-is = omega arith }
+pub unpack : (v e a f m l : ℕ) → e ≤ 1 → a ≤ 1 → f ≤ 1 → m < 256 → l < 256 → Read (pack v e a f m l) v e a f m l
+unpack v e a f m l he ha hf hm hl = record
+    { value-is = omega arith; expanded-is = omega arith; and-is = omega arith; free-is = omega arith; move-is = omega arith; remembered-is = omega arith }
 
 abbrev pub bit : Bool → ℕ
 bit b = cond b 1 0
@@ -75,15 +83,24 @@ view G = record { value = λ p. evaluated (G .final p) (G .moves p); and = λ p.
 
 -- The packed word of a live node; and of a freed one
 unfoldable pub packed : {Pos : Type 0} → View Pos → Node Pos → ℕ
-packed K n = pack (verdictNumber (K .value (n .pos))) (bit (n .expanded)) (bit (K .and (n .pos))) 0 (n .move)
+packed K n = pack (verdictNumber (K .value (n .pos))) (bit (n .expanded)) (bit (K .and (n .pos))) 0 (n .move) (n .remembered)
 
 abbrev pub freed : ℕ
-freed = pack 0 0 0 1 0
+freed = pack 0 0 0 1 0 0
 
-module _ {Pos : Type 0} (K : View Pos) (n : Node Pos) (byte : n .move < 256) where
-  pub packed-read : Read (packed K n) (verdictNumber (K .value (n .pos))) (bit (n .expanded)) (bit (K .and (n .pos))) 0 (n .move)
+-- The moves that it keeps are bytes
+abbrev pub Bytes : {Pos : Type 0} → Node Pos → Type 0
+Bytes n = (n .move < 256) × (n .remembered < 256)
+
+module _ {Pos : Type 0} (K : View Pos) (n : Node Pos) (byte : Bytes n) where
+  pub packed-read : Read (packed K n) (verdictNumber (K .value (n .pos))) (bit (n .expanded)) (bit (K .and (n .pos))) 0 (n .move) (n .remembered)
   unfolding packed
-  packed-read = unpack _ _ _ 0 (n .move) (bit-le (n .expanded)) (bit-le (K .and (n .pos))) (omega arith) byte
+  packed-read = unpack _ _ _ 0 (n .move) (n .remembered) (bit-le (n .expanded)) (bit-le (K .and (n .pos))) (omega arith) (byte .0) (byte .1)
+
+  -- Step 2 sets the remembered move
+  pub packed-remembered : (x : ℕ) → packed K (remember n x) ≡ withRemembered (packed K n) x
+  unfolding packed
+  packed-remembered x = omega (arith, byte .1)
 
   -- The flag says whether the node is expanded
   pub expanded-yes : expandedIn (packed K n) ≡ 1 → n .expanded ≡ true

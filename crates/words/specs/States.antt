@@ -1,18 +1,19 @@
 -- The steps of the plain machine as the pool holds its states, counts included. Rests on Steps and Store.
-use mathlib.Core.Path.{_≡_, refl, ap, sym, subst}
+use mathlib.Core.Path.{_≡_, refl, ap, sym, _∙_, subst}
 use mathlib.Core.List.{List, [], _∷_}
 use mathlib.Core.Bool.{Bool, true, false, cond}
-use Prim.Native.Nat.{ℕ, suc, _+_, _≤_}
+use Prim.Native.Nat.{ℕ, suc, _+_, _≤_, _<_}
 use native.Mathlib.Omega.{arith}
 use lib.ListN.{getD}
 use Rattle.machine.specs.Game.{Game}
 use Rattle.machine.specs.Tree.{Node, Children, none, child, size, append, solved}
-use Rattle.machine.specs.Machine.{Ancestor, Counts, State, state, start, children, opened, expand, renumber, store}
+use Rattle.machine.specs.Machine.{Ancestor, Counts, State, state, start, children, opened, expand, renumber, store, remember}
 use Rattle.machine.specs.Place.{sizeAbove, size-append}
-use Rattle.words.specs.Packed.{View}
-use Rattle.words.specs.Words.{NONE, FIRST, word}
-use Rattle.words.specs.Trees.{Part}
+use Rattle.words.specs.Packed.{View, packed}
+use Rattle.words.specs.Words.{NONE, PHI, DELTA, PACKED, FIRST, SIBLING, word, Agree, Stored, slot-long}
+use Rattle.words.specs.Trees.{Held, Part, uses, same-yes, part-only, part-append}
 use Rattle.words.specs.Pool.{Holding, Holds}
+use Rattle.words.specs.Current.{away, renewed}
 use Rattle.words.specs.Steps.{holding-down, holding-up}
 
 -- The start of a search
@@ -44,6 +45,51 @@ module _ {Pos : Type 0} (K : View Pos) (w path : List ℕ) (head used allocated 
     freed-is = h .freed-is;
     balance = omega (arith, h .balance, size-append (a .before) (child n ks (a .after)));
   }
+
+module _ {Pos : Type 0} (K : View Pos) (w path : List ℕ) (head used allocated freed : ℕ) (c : Counts) where
+  -- Step 2: a move is remembered at the current node
+  module _ (d : ℕ) (up : List (Ancestor Pos)) (n : Node Pos) (ks : Children Pos) (h : Holds K w path d head used allocated freed (state c up n ks))
+      (x : ℕ) (byte : x < 256) (v : List ℕ) (t : Stored w v (getD path d 0) PACKED (packed K (remember n x))) where
+    first-kept : word v (getD path d 0) FIRST ≡ word w (getD path d 0) FIRST
+    first-kept = t .beside FIRST (omega arith)
+
+    held : Held K v (remember n x) (getD path d 0)
+    held = let o = h .tree .node in record {
+      slot = slot-long (t .only .long) (o .slot);
+      byte = (o .byte .0, byte);
+      phi-is = t .beside PHI (omega arith) ∙ o .phi-is;
+      delta-is = t .beside DELTA (omega arith) ∙ o .delta-is;
+      packed-is = t .at;
+    }
+
+    pub holds-remembered : Holds K v path d head used allocated freed (state c up (remember n x) ks)
+    holds-remembered = record {
+      tree = renewed K w path d head used up n ks none NONE (h .tree) v (t .only) (t .beside SIBLING (omega arith)) (remember n x) held first-kept;
+      allocated-is = h .allocated-is;
+      freed-is = h .freed-is;
+      balance = h .balance;
+    }
+
+    -- A child's words are kept
+    pub child-kept : (i : ℕ) (a : Children Pos) (m : Node Pos) (b k : Children Pos) → Part K w a (word w (getD path d 0) FIRST) i → Part K w (child m b k) i NONE → append a (child m b k) ≡ ks → Agree w v i
+    unfolding uses
+    child-kept i a m b k pa pi e =
+        let u = part-append K w a (child m b k) (word w (getD path d 0) FIRST) i NONE pa pi .1 i in
+        let some : 0 < uses w (append a (child m b k)) (word w (getD path d 0) FIRST) i = omega (arith, same-yes i) in
+        let some′ : 0 < uses w ks (word w (getD path d 0) FIRST) i = rw e at some in
+        t .only .others i (away K w path d head used up n ks none NONE (h .tree) i (omega arith))
+
+    -- Then one child down
+    pub holds-taken : (path′ : List ℕ) (i : ℕ) (a : Children Pos) (m : Node Pos) (b k : Children Pos) → ((j : ℕ) → j ≤ d → getD path′ j 0 ≡ getD path j 0) → getD path′ (suc d) 0 ≡ i
+        → Part K w a (word w (getD path d 0) FIRST) i → Part K w (child m b k) i NONE → append a (child m b k) ≡ ks
+        → Holds K v path′ (suc d) head used allocated freed (state c (record { node = remember n x; before = a; after = k } ∷ up) m b)
+    holds-taken path′ i a m b k low top pa pi e =
+        let u = part-append K w a (child m b k) (word w (getD path d 0) FIRST) i NONE pa pi .1 (getD path d 0) in
+        let apart : uses w ks (word w (getD path d 0) FIRST) (getD path d 0) ≡ 0 = omega (arith, h .tree .once (getD path d 0), same-yes (getD path d 0)) in
+        let all : uses w (append a (child m b k)) (word w (getD path d 0) FIRST) (getD path d 0) ≡ 0 = rw e apart in
+        holds-down K v path head used allocated freed c path′ d up (remember n x) ks i a m b k holds-remembered low top
+        (subst (λ (y : ℕ). Part K v a y i) (sym first-kept) (part-only K w v (getD path d 0) (t .only) a (word w (getD path d 0) FIRST) i (omega arith) pa .0))
+        (part-only K w v (getD path d 0) (t .only) (child m b k) i NONE (omega arith) pi .0) e
 
 module _ (G : Game) (K : View (G .Pos)) (w path : List ℕ) (d head used allocated freed : ℕ) where
   -- Step 4: the children made are the leaf's own, and counted

@@ -9,13 +9,13 @@ use lib.Dec.{eqb}
 use borrow.Author.Tests.{eq-eqb, ne-eqb}
 use Rattle.machine.specs.Tree.{Node, Children, none, child, append}
 use Rattle.machine.specs.Descent.{height}
-use Rattle.words.specs.Packed.{View, packed}
+use Rattle.words.specs.Packed.{View, packed, Bytes}
 use Rattle.words.specs.Words.{NONE, PHI, DELTA, PACKED, FIRST, SIBLING, word, Slot, Agree, Only, slot-long}
 
 -- The node n stands at number i of the words w
 pub record Held {Pos : Type 0} (K : View Pos) (w : List ℕ) (n : Node Pos) (i : ℕ) : Type 0 where
   pub slot : Slot w i
-  pub byte : n .move < 256
+  pub byte : Bytes n
   pub phi-is : word w i PHI ≡ n .phi
   pub delta-is : word w i DELTA ≡ n .delta
   pub packed-is : word w i PACKED ≡ packed K n

@@ -11,7 +11,7 @@ use Rattle.words.specs.Trees.{Held, Part}
 
 -- A node, and a list of children, without positions
 abbrev pub bare : {Pos : Type 0} → Node Pos → Node (Unit {0})
-bare n = record { pos = tt; phi = n .phi; delta = n .delta; move = n .move; expanded = n .expanded }
+bare n = record { pos = tt; phi = n .phi; delta = n .delta; move = n .move; expanded = n .expanded; remembered = n .remembered }
 
 unfoldable pub shape : {Pos : Type 0} → Children Pos → Children (Unit {0})
 shape none = none
@@ -32,6 +32,7 @@ module _ {Pos : Type 0} (K : View Pos) (w : List ℕ) where
       let phis : n .phi ≡ m .phi = omega (arith, h .phi-is, g .phi-is) in
       let deltas : n .delta ≡ m .delta = omega (arith, h .delta-is, g .delta-is) in
       let moves : n .move ≡ m .move = omega (arith, a .move-is, b .move-is) in
+      let remembereds : n .remembered ≡ m .remembered = omega (arith, a .remembered-is, b .remembered-is) in
       let flags : n .expanded ≡ m .expanded = bit-same (n .expanded) (m .expanded) (omega (arith, a .expanded-is, b .expanded-is)) in
       cc
 

@@ -7,7 +7,7 @@ use native.Mathlib.Omega.{arith}
 use lib.Dec.{eqb}
 use borrow.Author.Tests.{eq-eqb, ne-eqb}
 use Rattle.machine.specs.Tree.{Node, u32-max, Children, none, child, size, leastDelta, sumPhi, append}
-use Rattle.machine.specs.Machine.{Counts, Ancestor, state, into, firstThat}
+use Rattle.machine.specs.Machine.{Counts, Ancestor, state, remember, into, firstThat, holdsAt}
 use Rattle.machine.specs.Place.{pool-max, UnsolvedAt, append-child}
 use Rattle.words.specs.Packed.{View}
 use Rattle.words.specs.Words.{NONE, PHI, DELTA, SIBLING, word, Slot, slot-some}
@@ -109,11 +109,22 @@ module _ {Pos : Type 0} where
   append-none (child n x a) = ap (child n x) (append-none a)
 
   into-at : (c : Counts) (up : List (Ancestor Pos)) (n : Node Pos) (a b : Children Pos) (m : Node Pos) (x r : Children Pos)
-      → into c up n a (append b (child m x r)) (len b) ≡ state c (record { node = n; before = append a b; after = r } ∷ up) m x
+      → into c up n a (append b (child m x r)) (len b) ≡ state c (record { node = remember n (m .move); before = append a b; after = r } ∷ up) m x
   unfolding into append len
   into-at c up n a none m x r = rw (append-none a)
   into-at c up n a (child k y b) m x r =
-      into-at c up n (append a (child k y none)) b m x r ∙ ap (λ (d : Children Pos). state c (record { node = n; before = d; after = r } ∷ up) m x) (append-child a k y b)
+      into-at c up n (append a (child k y none)) b m x r ∙ ap (λ (d : Children Pos). state c (record { node = remember n (m .move); before = d; after = r } ∷ up) m x) (append-child a k y b)
+
+  -- A test at a place, and past the last child
+  holds-at : (t : Node Pos → Bool) (b : Children Pos) (m : Node Pos) (x r : Children Pos) → holdsAt t (append b (child m x r)) (len b) ≡ t m
+  unfolding holdsAt append len
+  holds-at t none m x r = refl
+  holds-at t (child k y b) m x r = holds-at t b m x r
+
+  holds-past : (t : Node Pos → Bool) (b : Children Pos) → holdsAt t b (len b) ≡ false
+  unfolding holdsAt len
+  holds-past t none = refl
+  holds-past t (child k y b) = holds-past t b
 
   unsolved-after : (b r : Children Pos) (j : ℕ) → UnsolvedAt (append b r) (len b + j) → UnsolvedAt r j
   unfolding append len
@@ -133,11 +144,15 @@ pub record Chosen {Pos : Type 0} (K : View Pos) (w : List ℕ) (first : ℕ) (ks
   pub whole : append before (child node below after) ≡ ks
   pub place-is : place ≡ len before
 
--- Step 2 goes to it
-pub chosen-down : {Pos : Type 0} (K : View Pos) (w : List ℕ) (first : ℕ) (ks : Children Pos) (place i : ℕ) (h : Chosen K w first ks place i)
-    (c : Counts) (up : List (Ancestor Pos)) (n : Node Pos) → into c up n none ks place ≡ state c (record { node = n; before = h .before; after = h .after } ∷ up) (h .node) (h .below)
-unfolding append
-chosen-down K w first ks place i h c up n = rw (h .place-is, ← h .whole) (into-at c up n none (h .before) (h .node) (h .below) (h .after))
+-- Step 2 goes to it, and a test of the child at the place is one of it
+module _ {Pos : Type 0} (K : View Pos) (w : List ℕ) (first : ℕ) (ks : Children Pos) (place i : ℕ) (h : Chosen K w first ks place i) where
+  pub chosen-down : (c : Counts) (up : List (Ancestor Pos)) (n : Node Pos)
+      → into c up n none ks place ≡ state c (record { node = remember n (h .node .move); before = h .before; after = h .after } ∷ up) (h .node) (h .below)
+  unfolding append
+  chosen-down c up n = rw (h .place-is, ← h .whole) (into-at c up n none (h .before) (h .node) (h .below) (h .after))
+
+  pub chosen-holds : (t : Node Pos → Bool) → holdsAt t ks place ≡ t (h .node)
+  chosen-holds t = rw (h .place-is, ← h .whole) (holds-at t (h .before) (h .node) (h .below) (h .after))
 
 -- A walk to the first child that passes a test
 module _ {Pos : Type 0} (K : View Pos) (w : List ℕ) (first : ℕ) (test : Node Pos → Bool) (ks : Children Pos) where
@@ -193,3 +208,14 @@ module _ {Pos : Type 0} (K : View Pos) (w : List ℕ) (first : ℕ) (test : Node
       go (child m b r) p t s =
           let at : firstThat test (child m b r) ≡ 0 = rw (passes m (p .0), firstThat) in
           record { before = h .before; node = m; below = b; after = r; passed = h .passed; part = p; whole = t; place-is = omega (arith, s, at) }
+
+  -- Past the last child: none passes the test
+  pub looking-none : (i : ℕ) → i ≡ NONE → Looking i → (t : Node Pos → Bool) → holdsAt t ks (firstThat test ks) ≡ false
+  unfolding firstThat
+  looking-none i e h t = go (h .rest) (h .part) (h .whole) (h .place-is)
+    where
+      go : (r : Children Pos) → Part K w r i NONE → append (h .before) r ≡ ks → firstThat test ks ≡ len (h .before) + firstThat test r → holdsAt t ks (firstThat test ks) ≡ false
+      go none p q s =
+          let at : firstThat test ks ≡ len (h .before) = omega (arith, s) in
+          rw (at, ← q, append-none (h .before)) (holds-past t (h .before))
+      go (child m b r) p q s = absurd (slot-some (p .0 .slot) e)

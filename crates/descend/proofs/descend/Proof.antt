@@ -1,5 +1,5 @@
 -- `descend::descend` meets its contract: what stands at each turn leads to the leaf of the start; the places left on the path fall. Assumes nothing.
-use mathlib.Core.Path.{_≡_, refl, ap, sym, _∙_}
+use mathlib.Core.Path.{_≡_, refl, sym, _∙_}
 use mathlib.Core.Bool.{false}
 use Prim.Native.Nat.{_-_}
 use native.Mathlib.Omega.{arith}
@@ -13,59 +13,62 @@ use Rattle.descend.proofs.descend.Statement.{statement}
 use Rattle.descend.proofs.descend.Tie as tie
 
 abbrev Inv-loop : tie.InvT-loop
-Inv-loop table words path₀ positions₀ x depth₀ id₀ packed₀ path positions depth id packed =
-    (g : Searching words path₀ positions₀ x) → solved (root (g .at)) ≡ false → Descending g path positions depth (id .0) packed
+Inv-loop table words₀ path₀ positions₀ x stay depth₀ packed node₀ words path positions depth node =
+    (g : Searching words₀ path₀ positions₀ x) → solved (root (g .at)) ≡ false → Descending stay g words path positions depth node
 
 abbrev μ-loop : tie.MeasureT-loop
-μ-loop table words path₀ positions₀ x depth₀ id₀ packed₀ path positions depth id packed = 82 - depth
+μ-loop table words₀ path₀ positions₀ x stay depth₀ packed node₀ words path positions depth node = 82 - depth
 
 -- From a turn back to the call; what holds at the turn; and that its node is expanded
 abbrev call : tie.At-loop Inv-loop μ-loop → tie.Start Inv-loop μ-loop
-call c = c .before .before .before .before
+call c = c .before .before .before .before .before
 
-turn : (c : tie.At-loop Inv-loop μ-loop) → Descending (call c .pre .1 .0) (c .loop .path) (c .loop .positions) (c .loop .depth) (c .loop .id .0) (c .loop .packed)
+turn : (c : tie.At-loop Inv-loop μ-loop) → Descending (call c .args .stay) (call c .pre .1 .0) (c .loop .words) (c .loop .path) (c .loop .positions) (c .loop .depth) (c .loop .node)
 turn c = c .loop .inv (call c .pre .1 .0) (call c .pre .1 .1)
 
-open-there : (c : tie.Then1 Inv-loop μ-loop) → expandedIn (c .before .before .loop .packed) ≡ 1
+open-there : (c : tie.Then1 Inv-loop μ-loop) → expandedIn (c .before .before .loop .node .packed) ≡ 1
 open-there c = eqb-true _ _ (sym (c .before .expanded-in .ensures) ∙ c .if1 .taken)
 
-mul-t11 : tie.Need-mul-t11 Inv-loop μ-loop
-mul-t11 c = let g = c .before .pre .1 .0 in omega arith
+mul-t12 : tie.Need-mul-t12 Inv-loop μ-loop
+mul-t12 c = let g = c .before .pre .1 .0 in omega arith
 
-element-copy-out-t14 : tie.Need-element-copy-out-t14 Inv-loop μ-loop
-element-copy-out-t14 c = let g = c .before .pre .1 .0 in omega arith
+element-copy-out-t15 : tie.Need-element-copy-out-t15 Inv-loop μ-loop
+element-copy-out-t15 c = let g = c .before .pre .1 .0 in omega arith
 
 packed-requires : tie.Need-packed-requires Inv-loop μ-loop
-packed-requires c κs = c .before .before .pre .1 .0 .stands .tree .tree .node .slot
+packed-requires c κs = c .before .before .before .pre .1 .0 .stands .tree .tree .node .slot
 
 loop-holds : tie.Need-loop-holds Inv-loop μ-loop
-loop-holds c g e = descending-start g e refl (c .packed .ensures)
+loop-holds c g e = descending-start (c .before .before .before .before .args .stay) g e refl (c .packed .ensures)
 
 expanded-in-requires : tie.Need-expanded-in-requires Inv-loop μ-loop
 expanded-in-requires c κs = tt
 
 down-requires : tie.Need-down-requires Inv-loop μ-loop
 down-requires c κs =
-    let t = c .before .before in
+    let t = c .before .before .before in
     let l = t .before .before in
     let h = turn l in
-    (call l .pre .0, h .id-is, ap expandedIn (sym (h .packed-is)) ∙ open-there t, current (call l .pre .1 .0) h)
+    ((call l .pre .0, h .id-is, h .packed-is, open-there t), (current (call l .args .stay) (call l .pre .1 .0) h, call l .pre .2))
 
 add-depth : tie.Need-add-depth Inv-loop μ-loop
-add-depth c = let h = turn (c .before .before .before .before .before .before) in omega arith
+add-depth c = let h = turn (c .before .before .before .before .before .before .before .before) in omega arith
 
 loop-less : tie.Need-loop-less Inv-loop μ-loop
-loop-less c = let h = turn (c .before .before .before .before .before .before) in omega arith
+loop-less c = let h = turn (c .before .before .before .before .before .before .before .before) in omega arith
 
 loop-again : tie.Need-loop-again Inv-loop μ-loop
 loop-again c g e =
-    let t = c .before .before .before .before in
-    descending-step g (t .before .before .loop .inv g e) (open-there t) (c .before .down .ensures)
+    let t = c .before .before .before .before .before .before in
+    descending-step (call (t .before .before) .args .stay) g (t .before .before .loop .inv g e) (open-there t) (c .before .before .down .ensures)
+
+same-length : tie.Need-same-length Inv-loop μ-loop
+same-length c = turn (c .before .before .before) .long
 
 returns : tie.Need-returns Inv-loop μ-loop
 returns c g e =
     let l = c .before .before .before in
-    descending-done g (l .loop .inv g e) (eqb-false _ _ (sym (c .before .before .expanded-in .ensures) ∙ c .before .if1 .left))
+    descending-done (call l .args .stay) g (l .loop .inv g e) (eqb-false _ _ (sym (c .before .before .expanded-in .ensures) ∙ c .before .if1 .left))
 
 pub descend-spec : {M : Type 1} → statement M
 descend-spec =
@@ -73,8 +76,8 @@ descend-spec =
     (tie.spec
     Inv-loop
     μ-loop
-    mul-t11
-    element-copy-out-t14
+    mul-t12
+    element-copy-out-t15
     packed-requires
     loop-holds
     expanded-in-requires
@@ -82,4 +85,5 @@ descend-spec =
     add-depth
     loop-less
     loop-again
+    same-length
     returns)

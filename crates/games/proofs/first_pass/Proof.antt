@@ -1,8 +1,13 @@
 -- `games::first_pass` meets its contract: the games before i have stopped in their parts; the measure is how many are left. Assumes nothing.
-use mathlib.Core.Path.{refl}
-use Prim.Native.Nat.{_-_}
+use mathlib.Core.Path.{_≡_, refl, subst}
+use mathlib.Core.List.{List}
+use Prim.Native.Nat.{ℕ, _-_}
 use native.Mathlib.Omega.{arith}
 use borrow.Author.Needs.{needs}
+use Rattle.rules.specs.Rules.{Position}
+use Rattle.pn.specs.declared.Settings.{Settings}
+use Rattle.resume.specs.Keeping.{Stopped}
+use Rattle.resume.specs.declared.Kept.{Kept}
 use Rattle.games.specs.Playing.{First}
 use Rattle.games.specs.FirstPasses.{part-fits, record-fits, record-holds, to-first, first-accepted, unspent-enough, first-start, first-next, first-done}
 use Rattle.games.proofs.first_pass.Statement.{statement}
@@ -16,13 +21,17 @@ abbrev μ-loop : tie.MeasureT-loop
 
 -- From where a game has run back to its record, to the turn of the loop, and what it comes to
 abbrev load : tie.After-first Inv-loop μ-loop → tie.After-load Inv-loop μ-loop
-load r = r .before .before .before .before
+load r = r .before .before .before .before .before
 
 abbrev turn : tie.After-first Inv-loop μ-loop → tie.In-loop Inv-loop μ-loop
 turn r = load r .before .before
 
 abbrev at : tie.After-first Inv-loop μ-loop → tie.At-loop Inv-loop μ-loop
 at r = turn r .before
+
+-- The same search, its settings by an equation
+stopped-with : {p : Position} {s t : Settings} {v : List ℕ} {k : Kept} → s ≡ t → Stopped p s v k → Stopped p t v k
+stopped-with {p} {s} {t} {v} {k} e h = subst (λ (r : Settings). Stopped p r v k) e h
 
 nothing-requires : tie.Need-nothing-requires Inv-loop μ-loop
 nothing-requires c κs = search needs
@@ -60,15 +69,18 @@ add-e c =
     let h = turn .before .loop .inv in
     omega (arith, part-fits (h .from .shaped) (turn .before .loop .words) (h .long) _ (turn .loop-test .taken), h .long)
 
-mul-t23 : tie.Need-mul-t23 Inv-loop μ-loop
-mul-t23 c = let turn = c .before .before .before in omega (arith, turn .before .loop .inv .from .shaped .few, turn .loop-test .taken)
+mul-settings-of : tie.Need-mul-settings-of Inv-loop μ-loop
+mul-settings-of c = let turn = c .before .before .before in omega (arith, turn .before .loop .inv .from .shaped .few, turn .loop-test .taken)
 
-element-copy-out-t28 : tie.Need-element-copy-out-t28 Inv-loop μ-loop
-element-copy-out-t28 c = let turn = c .before .before .before in omega (arith, turn .before .loop .inv .from .shaped .few, turn .loop-test .taken)
+element-copy-out-settings-of : tie.Need-element-copy-out-settings-of Inv-loop μ-loop
+element-copy-out-settings-of c = let turn = c .before .before .before in omega (arith, turn .before .loop .inv .from .shaped .few, turn .loop-test .taken)
+
+settings-of-requires : tie.Need-settings-of-requires Inv-loop μ-loop
+settings-of-requires c κs = search needs
 
 mul-first : tie.Need-mul-first Inv-loop μ-loop
 mul-first c =
-    let turn = c .before .before .before .before in
+    let turn = c .before .before .before .before .before in
     let h = turn .before .loop .inv in
     omega (arith, part-fits (h .from .shaped) (turn .before .loop .words) (h .long) _ (turn .loop-test .taken), h .long)
 
@@ -80,18 +92,18 @@ part-first-start c = omega arith
 
 part-first-end : tie.Need-part-first-end Inv-loop μ-loop
 part-first-end c =
-    let turn = c .before .before .before .before in
+    let turn = c .before .before .before .before .before in
     let h = turn .before .loop .inv in
     part-fits (h .from .shaped) (turn .before .loop .words) (h .long) _ (turn .loop-test .taken)
 
 first-requires : tie.Need-first-requires Inv-loop μ-loop
 first-requires c κs =
-    let loaded = c .before .before .before in
+    let loaded = c .before .before .before .before in
     let turn = loaded .before .before in
     let h = turn .before .loop .inv in
     let l = turn .loop-test .taken in
     let e = loaded .load .ensures in
-    to-first h l _ (record-holds (h .from) _ _ _ l (e .0) (e .1))
+    rw (c .before .settings-of .ensures) (to-first h l _ (record-holds (h .from) _ _ _ l (e .0) (e .1)))
 
 sub-unspent : tie.Need-sub-unspent Inv-loop μ-loop
 sub-unspent c =
@@ -99,7 +111,8 @@ sub-unspent c =
     let h = at r .loop .inv in
     let l = turn r .loop-test .taken in
     let e = load r .load .ensures in
-    unspent-enough h l _ _ (r .first .kept .0) (r .first .ensures _ (record-holds (h .from) _ _ _ l (e .0) (e .1)) (first-accepted h l))
+    unspent-enough h l _ _ (r .first .kept .0)
+    (stopped-with (r .before .before .settings-of .ensures) (r .first .ensures _ (record-holds (h .from) _ _ _ l (e .0) (e .1)) (first-accepted h l)))
 
 mul-kept : tie.Need-mul-kept Inv-loop μ-loop
 mul-kept c =
@@ -127,7 +140,8 @@ loop-again c =
     let h = at r .loop .inv in
     let l = turn r .loop-test .taken in
     let e = load r .load .ensures in
-    first-next h l _ _ (r .first .kept .0) (r .first .ensures _ (record-holds (h .from) _ _ _ l (e .0) (e .1)) (first-accepted h l)) _ (omega arith)
+    first-next h l _ _ (r .first .kept .0)
+    (stopped-with (r .before .before .settings-of .ensures) (r .first .ensures _ (record-holds (h .from) _ _ _ l (e .0) (e .1)) (first-accepted h l))) _ (omega arith)
 
 same-length : tie.Need-same-length Inv-loop μ-loop
 same-length c = c .before .loop .inv .long
@@ -151,8 +165,9 @@ first-pass-spec =
     load-requires
     mul-a
     add-e
-    mul-t23
-    element-copy-out-t28
+    mul-settings-of
+    element-copy-out-settings-of
+    settings-of-requires
     mul-first
     sub-first
     part-first-start

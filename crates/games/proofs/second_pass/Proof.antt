@@ -19,7 +19,7 @@ abbrev μ-loop : tie.MeasureT-loop
 
 -- From where a game has had its turn back to the loop
 abbrev turn-of : tie.After-second Inv-loop μ-loop → tie.In-loop Inv-loop μ-loop
-turn-of r = r .before .before .before .before
+turn-of r = r .before .before .before .before .before
 
 no-result-requires : tie.Need-no-result-requires Inv-loop μ-loop
 no-result-requires c κs = search needs
@@ -33,21 +33,24 @@ mul-a c = let h = c .before .loop .inv in omega (arith, part-fits (h .from .1 .s
 add-e : tie.Need-add-e Inv-loop μ-loop
 add-e c = let h = c .before .loop .inv in omega (arith, part-fits (h .from .1 .shaped) (c .before .loop .words) (h .long) _ (c .loop-test .taken), h .long)
 
-mul-t20 : tie.Need-mul-t20 Inv-loop μ-loop
-mul-t20 c = omega (arith, c .before .loop .inv .from .1 .shaped .few, c .loop-test .taken)
+mul-settings-of : tie.Need-mul-settings-of Inv-loop μ-loop
+mul-settings-of c = omega (arith, c .before .loop .inv .from .1 .shaped .few, c .loop-test .taken)
 
-element-copy-out-t23 : tie.Need-element-copy-out-t23 Inv-loop μ-loop
-element-copy-out-t23 c = omega (arith, c .before .loop .inv .from .1 .shaped .few, c .loop-test .taken)
+element-copy-out-settings-of : tie.Need-element-copy-out-settings-of Inv-loop μ-loop
+element-copy-out-settings-of c = omega (arith, c .before .loop .inv .from .1 .shaped .few, c .loop-test .taken)
+
+settings-of-requires : tie.Need-settings-of-requires Inv-loop μ-loop
+settings-of-requires c κs = search needs
 
 mul-k : tie.Need-mul-k Inv-loop μ-loop
-mul-k c = let turn = c .before in omega (arith, turn .before .loop .inv .from .1 .shaped .few, turn .loop-test .taken)
+mul-k c = let turn = c .before .before in omega (arith, turn .before .loop .inv .from .1 .shaped .few, turn .loop-test .taken)
 
 array-copy-out-k : tie.Need-array-copy-out-k Inv-loop μ-loop
-array-copy-out-k c = let turn = c .before in omega (arith, turn .before .loop .inv .from .1 .shaped .few, turn .loop-test .taken)
+array-copy-out-k c = let turn = c .before .before in omega (arith, turn .before .loop .inv .from .1 .shaped .few, turn .loop-test .taken)
 
 mul-second : tie.Need-mul-second Inv-loop μ-loop
 mul-second c =
-    let turn = c .before .before in
+    let turn = c .before .before .before in
     let h = turn .before .loop .inv in
     omega (arith, part-fits (h .from .1 .shaped) (turn .before .loop .words) (h .long) _ (turn .loop-test .taken), h .long)
 
@@ -59,12 +62,14 @@ part-second-start c = omega arith
 
 part-second-end : tie.Need-part-second-end Inv-loop μ-loop
 part-second-end c =
-    let turn = c .before .before in
+    let turn = c .before .before .before in
     let h = turn .before .loop .inv in
     part-fits (h .from .1 .shaped) (turn .before .loop .words) (h .long) _ (turn .loop-test .taken)
 
 second-requires : tie.Need-second-requires Inv-loop μ-loop
-second-requires c κs = let turn = c .before .before .before in to-second (turn .before .loop .inv) (turn .loop-test .taken) _
+second-requires c κs =
+    let turn = c .before .before .before .before in
+    rw (c .before .before .settings-of .ensures) (to-second (turn .before .loop .inv) (turn .loop-test .taken) _)
 
 mul-results : tie.Need-mul-results Inv-loop μ-loop
 mul-results c =
@@ -90,7 +95,8 @@ loop-again : tie.Need-loop-again Inv-loop μ-loop
 loop-again c =
     let r = c .before .before .before in
     let turn = turn-of r in
-    second-next (turn .before .loop .inv) (turn .loop-test .taken) _ (r .second .last .0) (r .second .result) (r .second .kept .0) (r .second .ensures) _ (omega arith)
+    second-next (turn .before .loop .inv) (turn .loop-test .taken) _ (r .second .last .0) (r .second .result) (r .second .kept .0)
+    (rw (r .before .before .before .settings-of .ensures) at (r .second .ensures)) _ (omega arith)
 
 same-length : tie.Need-same-length Inv-loop μ-loop
 same-length c = c .before .loop .inv .long
@@ -108,8 +114,9 @@ second-pass-spec =
     loop-holds
     mul-a
     add-e
-    mul-t20
-    element-copy-out-t23
+    mul-settings-of
+    element-copy-out-settings-of
+    settings-of-requires
     mul-k
     array-copy-out-k
     mul-second

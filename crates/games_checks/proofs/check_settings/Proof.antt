@@ -36,6 +36,12 @@ refuses-requires-7 c κs = search needs
 refuses-requires-8 : tie.Need-refuses-requires-8
 refuses-requires-8 c κs = search needs
 
+in-range-requires : tie.Need-in-range-requires
+in-range-requires c κs = search needs
+
+refuses-requires-9 : tie.Need-refuses-requires-9
+refuses-requires-9 c κs = search needs
+
 slice-aggregate-first : tie.Need-slice-aggregate-first
 slice-aggregate-first c = search needs
 
@@ -45,7 +51,9 @@ first-requires c κs = search needs
 returns : tie.Need-returns
 returns c =
     let sum = c .before .before in
-    let allowance = sum .before .before .before in
+    let margin = sum .before .before .before in
+    let tested = margin .before in
+    let allowance = tested .before in
     let shares = allowance .before .before in
     let interval-most = shares .before in
     let interval-least = interval-most .before .before in
@@ -63,7 +71,9 @@ returns c =
       interval-most .refuses5 .ensures,
       shares .refuses6 .ensures,
       allowance .refuses7 .ensures,
-      sum .refuses8 .ensures,
+      margin .refuses8 .ensures,
+      tested .in-range .ensures,
+      sum .refuses9 .ensures,
     ) (settings-refuse (a .nodes) (a .n) (sharesOf (a .shares .now) (a .n)) (commonOf (a .c)) (added .summed .result .above) (added .summed .result .total) (added .summed .ensures))
 
 pub check-settings-spec : {M : Type 1} → statement M
@@ -79,7 +89,9 @@ check-settings-spec =
     refuses-requires-5
     refuses-requires-6
     refuses-requires-7
+    in-range-requires
     refuses-requires-8
+    refuses-requires-9
     slice-aggregate-first
     first-requires
     returns)

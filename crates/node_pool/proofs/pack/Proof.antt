@@ -30,6 +30,12 @@ mul-result-3 c = search needs
 add-result-2 : tie.Need-add-result-2
 add-result-2 c = omega (arith, verdict-le (verdict (c .before .before .before .args .value)), bit-le (c .before .before .before .args .and))
 
+mul-result-4 : tie.Need-mul-result-4
+mul-result-4 c = search needs
+
+add-result-3 : tie.Need-add-result-3
+add-result-3 c = omega (arith, verdict-le (verdict (c .before .before .before .args .value)), bit-le (c .before .before .before .args .and))
+
 returns : tie.Need-returns
 returns c = search needs
 
@@ -45,4 +51,6 @@ pack-spec =
     cast-result
     mul-result-3
     add-result-2
+    mul-result-4
+    add-result-3
     returns)

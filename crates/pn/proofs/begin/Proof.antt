@@ -65,7 +65,7 @@ returns c p h a =
     let node = l .alloc .ensures (all-spare _ (given .some) (given .few)) in
     begun rule p _ (given .some) (given .few) _ _ _ _ _ _ _ _ _ _ value
     (b .leaf-bounds .ensures rule (p .side) p 255 value (root-and rule p))
-    (k .pack .ensures ∙ ap (λ (m : ℕ). pack (number (v .root-value .result)) 0 (bit false) 0 m) (n .none .ensures))
+    (k .pack .ensures ∙ ap (λ (m : ℕ). pack (number (v .root-value .result)) 0 (bit false) 0 m 255) (n .none .ensures))
     (node .number) (node .filled) (node .past)
     (getD-set-same path 0 _ 0 (omega (arith, call s .pre .1))) (length-set path 0 _ ∙ call s .pre .1) (s .start .ensures .0) here
 

@@ -41,9 +41,9 @@ finish-requires-2 c κs =
     let end = r .go-on .ensures (to-go-on (g .stopped) _ (test r .if1 .left) (g .ranges) (g .most)) in
     (end .going .stands .path-long, (g .start, _, end .going), end .stop)
 
-sub-t23 : tie.Need-sub-t23
+sub-t24 : tie.Need-sub-t24
 unfolding to-go-on
-sub-t23 c =
+sub-t24 c =
     let f = c .before in
     let r = f .before .before .before .before .before .before .before in
     let a = call r .args in
@@ -67,4 +67,4 @@ returns-2 c p h =
     (f .finish2 .ensures p _ (r .go-on .ensures (to-go-on h (a .unspent) (test r .if1 .left) (g .ranges) (g .most)) .going)))
 
 pub second-spec : {M : Type 1} → statement M
-second-spec = tie.close (tie.spec finish-requires same-length returns add-grant go-on-requires finish-requires-2 sub-t23 same-length-2 returns-2)
+second-spec = tie.close (tie.spec finish-requires same-length returns add-grant go-on-requires finish-requires-2 sub-t24 same-length-2 returns-2)

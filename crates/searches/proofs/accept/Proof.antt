@@ -27,6 +27,12 @@ refuses-requires-5 c κs = search needs
 refuses-requires-6 : tie.Need-refuses-requires-6
 refuses-requires-6 c κs = search needs
 
+in-range-requires : tie.Need-in-range-requires
+in-range-requires c κs = search needs
+
+refuses-requires-7 : tie.Need-refuses-requires-7
+refuses-requires-7 c κs = search needs
+
 slice-aggregate-first : tie.Need-slice-aggregate-first
 slice-aggregate-first c = search needs
 
@@ -36,7 +42,9 @@ first-requires c κs = search needs
 returns : tie.Need-returns
 unfolding searchRefusal
 returns c =
-    let budget-most = c .before .before in
+    let stay-in-range = c .before .before in
+    let tested = stay-in-range .before in
+    let budget-most = tested .before in
     let interval-most = budget-most .before .before in
     let interval-least = interval-most .before .before in
     let rule-most = interval-least .before .before in
@@ -52,6 +60,8 @@ returns c =
         interval-least .refuses4 .ensures,
         interval-most .refuses5 .ensures,
         budget-most .refuses6 .ensures,
+        stay-in-range .refuses7 .ensures,
+        tested .in-range .ensures,
       ),
       λ z. loaded .load .ensures .1 (none-refuses _ _ (sym (c .first .ensures) ∙ z) .0),
     )
@@ -67,6 +77,8 @@ accept-spec =
     refuses-requires-4
     refuses-requires-5
     refuses-requires-6
+    in-range-requires
+    refuses-requires-7
     slice-aggregate-first
     first-requires
     returns)

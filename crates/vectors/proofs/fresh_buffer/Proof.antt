@@ -6,7 +6,7 @@ use Rattle.vectors.proofs.fresh_buffer.Statement.{statement}
 use Rattle.vectors.proofs.fresh_buffer.Tie as tie
 
 returns : tie.Need-returns
-returns c = sym (length-replicate {A = ℕ} 524288 0)
+returns c = sym (length-replicate {A = ℕ} 655360 0)
 
 pub fresh-buffer-spec : {M : Type 1} → statement M
 fresh-buffer-spec = tie.close (tie.spec returns)

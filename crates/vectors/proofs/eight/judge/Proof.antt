@@ -31,8 +31,8 @@ returns-2 c = search needs
 read-shares-requires : tie.Need-read-shares-requires
 read-shares-requires c κs = search needs
 
-enum-known-place : tie.Need-enum-known-place
-enum-known-place c = search needs
+enum-known-m : tie.Need-enum-known-m
+enum-known-m c = search needs
 
 enum-told-3 : tie.Need-enum-told-3
 enum-told-3 c = search needs
@@ -84,7 +84,7 @@ judge-spec =
     enum-told-2
     returns-2
     read-shares-requires
-    enum-known-place
+    enum-known-m
     enum-told-3
     returns-3
     fresh-pool-requires

@@ -16,20 +16,20 @@ enum-told c = search needs
 returns : tie.Need-returns
 returns c = search needs
 
-next-word-requires : tie.Need-next-word-requires
-next-word-requires c κs = search needs
+read-requires : tie.Need-read-requires
+read-requires c κs = search needs
 
-slice-aggregate-is-word : tie.Need-slice-aggregate-is-word
-slice-aggregate-is-word c = search needs
+enum-known-m : tie.Need-enum-known-m
+enum-known-m c = search needs
 
-is-word-requires : tie.Need-is-word-requires
-is-word-requires c κs = search needs
+enum-told-2 : tie.Need-enum-told-2
+enum-told-2 c = search needs
 
 returns-2 : tie.Need-returns-2
-returns-2 c = let x = c .before .before .before .before .before in lendable (x .x .given .1) (x .before .before .read-limits .ensures)
+returns-2 c = search needs
 
 returns-3 : tie.Need-returns-3
-returns-3 c = search needs
+returns-3 c = let x = c .before .before .before .before .before in lendable (x .x .given .1) (x .before .before .read-limits .ensures)
 
 pub read-settings-spec : {M : Type 1} → statement M
 read-settings-spec =
@@ -39,8 +39,8 @@ read-settings-spec =
     enum-known-x
     enum-told
     returns
-    next-word-requires
-    slice-aggregate-is-word
-    is-word-requires
+    read-requires
+    enum-known-m
+    enum-told-2
     returns-2
     returns-3)

@@ -1,0 +1,4 @@
+pub mod Margin
+pub mod Cases
+pub mod Steps
+pub mod Exact
