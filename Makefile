@@ -14,11 +14,12 @@ ROUNDS ?= 5
 LOAD_ROUNDS ?= 25
 LOOKUP_ROUNDS ?= 101
 GAMES_ROUNDS ?= 41
+STAY_ROUNDS ?= 3
 CARGO = cargo
 BUILD_IN = $(CARGO) build --manifest-path harness/Cargo.toml --offline --locked -j $(JOBS)
 BUILD = $(BUILD_IN) --release
 
-.PHONY: test judge library uttt answers oracle-test fuzz compare bench bench-loads bench-lookups bench-games bindings-test examples
+.PHONY: test judge library uttt answers oracle-test fuzz compare bench bench-loads bench-lookups bench-games bench-stay bindings-test examples
 
 # Every crate proved from nothing, every must-fail edit refused, every program's output as stored. Nothing is printed after rt's last line.
 test:
@@ -85,6 +86,11 @@ bench-lookups: library
 bench-games: library
 	$(BUILD_IN) --profile speed -p rounds
 	harness/target/speed/rounds $(GAMES_ROUNDS)
+
+# Endings searched with and without a margin, counted and timed: the table of staying on a line in docs/SPEED.md.
+bench-stay: library
+	$(BUILD_IN) --profile speed -p stays
+	harness/target/speed/stays $(STAY_ROUNDS)
 
 # The Rust wrapper's own tests, over the library.
 bindings-test: library

@@ -82,7 +82,8 @@ enum uttt_code {
     UTTT_BOOK_SIZE = 17,        /* the book's length is no multiple of 22, or the count is above its entries */
     UTTT_BOOK_FULL = 18,        /* add: every entry of the book is used, and none holds the pair */
     UTTT_TRAINER_WRITES = 19,   /* add, publish: the caller is a trainer, who may only look up; ahead of all others */
-    UTTT_GAMES_OR_SHARES = 20   /* games: there is none, or over eight; or their shares sum above the allowance */
+    UTTT_GAMES_OR_SHARES = 20,  /* games: there is none, or over eight; or their shares sum above the allowance */
+    UTTT_MARGIN = 21            /* the margin is not a whole multiple of 1/256 from 0 to 1 */
 };
 
 /*
@@ -92,11 +93,12 @@ enum uttt_code {
  *   legal moves      1 to 6, 7
  *   referee          1 to 6, 10 (rule), 16
  *   agreed opening   7
- *   search           1 to 6, 8, 9, 10
- *   full verdict     1 to 6, 8, 9, 10 (interval and budget)
- *   games            1, 20 (number of games), 2 to 6 of the records, 8 (a part), 9 (the whole pool), 10, 20 (shares)
+ *   search           1 to 6, 8, 9, 10, 21
+ *   full verdict     1 to 6, 8, 9, 10 (interval and budget), 21
+ *   games            1, 20 (number of games), 2 to 6 of the records, 8 (a part), 9 (the whole pool), 10, 21,
+ *                    20 (shares)
  *   lookup           1 to 6, 10 (rule), 17
- *   add              19, 1 to 6, 8, 9, 10, 17, 18
+ *   add              19, 1 to 6, 8, 9, 10, 21, 17, 18
  *   publish          19, 1 to 6, 10 (rule), 17
  *
  * Games checks every record, in their order, for 2 before it checks any for 3, and so on to 6.
@@ -153,6 +155,25 @@ enum uttt_cause {
 /* Ranges: budget, share, allowance 0 to the most; interval 1 to the most; limit any number, UINT64_MAX for none. */
 #define UTTT_BUDGET_MOST UINT64_C(1000000000000)
 #define UTTT_INTERVAL_MOST 1000000
+
+/*
+ * Staying on a line. The calls that search end with the parameters staying and margin. At each position a search looks
+ * into the reply that needs the least to be settled. In long endings two replies are often nearly level: it looks a
+ * little into one, then the other needs less, then the first again, and so on. With staying true it goes on with the
+ * reply that it took last at that position as long as this one is nearly as good: it is unsettled, and what it needs is
+ * at most 1 + margin times the least. The larger the margin, the longer it stays. Some endings are solved with fewer
+ * expansions so, others with more.
+ *
+ * The margin is 0 to 1 and a whole multiple of 1/256: 0.0, 0.25, 0.5 and 1.0 are, 0.1 is not. Any other is refused with
+ * UTTT_MARGIN, NaN too. -0.0 counts as 0.0. Margin 0.0 is not the same as staying false: of replies that are level the
+ * one taken last is taken again, where staying false takes the one listed first. With staying false the margin is not
+ * read: it may be anything, NaN too.
+ *
+ * A True or False is the position's value whatever staying and margin are. How far a search comes with its pool, limit
+ * and budget can depend on them, and so can all other fields of a result. A search that answered True or False gives
+ * the same result, in every field, with no less pool, limit and budget, if interval, staying and margin are the same;
+ * with others it may be Unknown or have other numbers.
+ */
 
 /* So many games are judged together at most, and so many shares there are always. */
 #define UTTT_GAMES_MOST 8
@@ -297,11 +318,12 @@ uint64_t uttt_agreed_opening(const uint8_t *first, size_t first_length,
 /*
  * Searches the record's position under a rule. After every interval-th expansion more than limit live nodes end the
  * search. A True or False is the position's value under the rule; Unknown comes with a cause. A finished game is
- * answered without an expansion.
+ * answered without an expansion. staying and margin: see Staying on a line.
  */
 struct uttt_search_answer uttt_search(const uint8_t *record, size_t record_length,
                                       uint32_t *pool, size_t pool_words,
-                                      uint64_t rule, uint64_t limit, uint64_t budget, uint64_t interval);
+                                      uint64_t rule, uint64_t limit, uint64_t budget, uint64_t interval,
+                                      bool staying, double margin);
 
 /*
  * Searches under rule 1, then under rule 2, one after the other in the same pool, each with the whole budget: win if
@@ -310,12 +332,14 @@ struct uttt_search_answer uttt_search(const uint8_t *record, size_t record_lengt
  */
 struct uttt_full_answer uttt_full_verdict(const uint8_t *record, size_t record_length,
                                           uint32_t *pool, size_t pool_words,
-                                          uint64_t limit, uint64_t budget, uint64_t interval);
+                                          uint64_t limit, uint64_t budget, uint64_t interval,
+                                          bool staying, double margin);
 
 /*
- * Judges one to eight games together, under one rule, limit and interval and with one allowance of expansions for all.
- * records has 21 bytes a game, one record after the other. shares[i] is game i's share of the allowance; together the
- * games' shares may not be above it. Those past the last game are not read: any number may stand there.
+ * Judges one to eight games together, under one rule, limit and interval, with one allowance of expansions for all, and
+ * all of them with staying and margin. records has 21 bytes a game, one record after the other. shares[i] is game i's
+ * share of the allowance; together the games' shares may not be above it. Those past the last game are not read: any
+ * number may stand there.
  *
  * The pool is cut into one part for each game, game 0's first. All have the same number of whole nodes, as many as the
  * pool has room for.
@@ -331,7 +355,8 @@ struct uttt_full_answer uttt_full_verdict(const uint8_t *record, size_t record_l
 struct uttt_games_answer uttt_judge_games(const uint8_t *records, size_t records_length,
                                           uint32_t *pool, size_t pool_words,
                                           const uint64_t shares[UTTT_GAMES_MOST],
-                                          uint64_t rule, uint64_t limit, uint64_t allowance, uint64_t interval);
+                                          uint64_t rule, uint64_t limit, uint64_t allowance, uint64_t interval,
+                                          bool staying, double margin);
 
 /*
  * Gives the verdict that the book holds for the record and the rule, 0 to 2; to a trainer, that of a published entry.
@@ -352,7 +377,8 @@ struct uttt_lookup_answer uttt_book_lookup(bool trainer, const uint8_t *book, si
 struct uttt_add_answer uttt_book_add(bool trainer, uint8_t *book, size_t book_length, uint64_t count,
                                      const uint8_t *record, size_t record_length,
                                      uint32_t *pool, size_t pool_words,
-                                     uint64_t rule, uint64_t limit, uint64_t budget, uint64_t interval);
+                                     uint64_t rule, uint64_t limit, uint64_t budget, uint64_t interval,
+                                     bool staying, double margin);
 
 /*
  * Sets the published mark of the first entry that holds the record and the rule, 0 to 2, and changes no other bit. If

@@ -30,6 +30,7 @@ static const char *const refusals[] = {
     [UTTT_POOL_EMPTY] = "the pool has no room for a node",
     [UTTT_POOL_TOO_LARGE] = "the pool has more than 16,777,216 nodes",
     [UTTT_SETTING_RANGE] = "the interval or the budget is out of its range",
+    [UTTT_MARGIN] = "the margin is not a whole multiple of 1/256 from 0 to 1",
 };
 
 /* Reads the digits into 21 bytes; 0 if they are not 42 hexadecimal digits. */
@@ -84,7 +85,7 @@ int main(int count, char **words) {
         return 2;
     }
     const struct uttt_full_answer answer =
-        uttt_full_verdict(record, sizeof record, pool, pool_words, UINT64_MAX, BUDGET, INTERVAL);
+        uttt_full_verdict(record, sizeof record, pool, pool_words, UINT64_MAX, BUDGET, INTERVAL, false, 0.0);
     free(pool);
     if (answer.code != UTTT_OK) {
         fprintf(stderr, "adjudicate: refused: %s\n", refusals[answer.code]);

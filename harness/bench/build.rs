@@ -1,17 +1,17 @@
 //! Builds the original as the oracle does, but for what costs time and no search of the benchmark needs:
-//! step 3 (every pool is large enough) and the small slabs. A patch that does not fit exactly once stops
-//! the build.
+//! step 3 (every pool is large enough), staying on a line (the setting is off) and the small slabs. A patch that
+//! does not fit exactly once stops the build.
 
 #[path = "../oracle/build/patches.rs"]
 #[allow(dead_code)]
 mod patches;
 
-use patches::{FILES, PATCHES};
+use patches::{FILES, PATCHES, REMEMBERED, STEP_3, TAKEN_AGAIN};
 use std::path::{Path, PathBuf};
 use std::{env, fs, process};
 
 const PLACE: &str = "ULTIMATTT_SRC";
-const LEFT_OUT: &str = "step 3";
+const LEFT_OUT: [&str; 3] = [STEP_3, TAKEN_AGAIN, REMEMBERED];
 
 fn main() {
     println!("cargo:rerun-if-changed=build.rs");
@@ -20,8 +20,8 @@ fn main() {
     let Some(place) = env::var_os(PLACE) else {
         stop(&format!("set {} to the directory of the original, as an absolute path", PLACE));
     };
-    if !PATCHES.iter().any(|p| p.name == LEFT_OUT) {
-        stop(&format!("no patch is named {:?}", LEFT_OUT));
+    if let Some(name) = LEFT_OUT.iter().find(|name| !PATCHES.iter().any(|p| p.name == **name)) {
+        stop(&format!("no patch is named {:?}", name));
     }
     let out = PathBuf::from(env::var("OUT_DIR").expect("cargo sets OUT_DIR"));
     for file in FILES {
@@ -34,7 +34,7 @@ fn main() {
 }
 
 fn patched(file: &str, mut text: String) -> String {
-    for patch in PATCHES.iter().filter(|p| p.file == file && p.name != LEFT_OUT) {
+    for patch in PATCHES.iter().filter(|p| p.file == file && !LEFT_OUT.contains(&p.name)) {
         let fits = text.matches(patch.from).count();
         if fits != 1 {
             stop(&format!("patch {:?} fits {} times in {}, not once", patch.name, fits, file));

@@ -149,7 +149,7 @@ pub fn add_to(
     rule: Rule,
     s: &Settings,
 ) -> Result<Verdict, Refusal> {
-    let words = pool.words_mut();
+    let (words, (staying, margin)) = (pool.words_mut(), s.stay.passed());
     // SAFETY: the three slices are valid for their lengths, and a &mut overlaps nothing.
     let answer = unsafe {
         ffi::uttt_book_add(
@@ -165,6 +165,8 @@ pub fn add_to(
             s.limit,
             s.budget,
             s.interval,
+            staying,
+            margin,
         )
     };
     // With a refusal it is the count that came in.

@@ -126,6 +126,8 @@ extern "C" {
         limit: u64,
         budget: u64,
         interval: u64,
+        staying: bool,
+        margin: f64,
     ) -> SearchAnswer;
 
     pub fn uttt_full_verdict(
@@ -136,6 +138,8 @@ extern "C" {
         limit: u64,
         budget: u64,
         interval: u64,
+        staying: bool,
+        margin: f64,
     ) -> FullAnswer;
 
     pub fn uttt_judge_games(
@@ -148,6 +152,8 @@ extern "C" {
         limit: u64,
         allowance: u64,
         interval: u64,
+        staying: bool,
+        margin: f64,
     ) -> GamesAnswer;
 
     pub fn uttt_book_lookup(
@@ -173,6 +179,8 @@ extern "C" {
         limit: u64,
         budget: u64,
         interval: u64,
+        staying: bool,
+        margin: f64,
     ) -> AddAnswer;
 
     pub fn uttt_book_publish(

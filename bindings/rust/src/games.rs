@@ -1,10 +1,10 @@
 //! Several games judged together.
 
-use crate::{ffi, Pool, Refusal, Rule, SearchResult, Settings, GAMES_MOST, RECORD_BYTES};
+use crate::{ffi, Pool, Refusal, Rule, SearchResult, Settings, Stay, GAMES_MOST, RECORD_BYTES};
 
-/// What bounds the searches of several games beside their pool. By default each of eight games has as its share what
-/// [`Settings`] has as budget, and the allowance is all of these together.
-#[derive(Clone, Copy, Debug, PartialEq, Eq, Hash)]
+/// What bounds the searches of several games beside their pool, and how they go. By default each of eight games has as
+/// its share what [`Settings`] has as budget, and the allowance is all of these together.
+#[derive(Clone, Copy, Debug, PartialEq)]
 pub struct GamesSettings {
     /// The most live nodes of a game, looked at on every interval-th expansion of that game.
     pub limit: u64,
@@ -15,12 +15,14 @@ pub struct GamesSettings {
     /// For each game, the most expansions of the first pass, 0 to 1,000,000,000,000; their sum is at most the
     /// allowance. Those past the last game are not read: any number may stand there.
     pub shares: [u64; GAMES_MOST],
+    /// Whether each game's search stays on a line.
+    pub stay: Stay,
 }
 
 impl Default for GamesSettings {
     fn default() -> GamesSettings {
-        let Settings { limit, budget, interval } = Settings::default();
-        GamesSettings { limit, allowance: GAMES_MOST as u64 * budget, interval, shares: [budget; GAMES_MOST] }
+        let Settings { limit, budget, interval, stay } = Settings::default();
+        GamesSettings { limit, allowance: GAMES_MOST as u64 * budget, interval, shares: [budget; GAMES_MOST], stay }
     }
 }
 
@@ -53,7 +55,7 @@ pub fn judge_games(
     rule: Rule,
     s: &GamesSettings,
 ) -> Result<Vec<SearchResult>, Refusal> {
-    let words = pool.words_mut();
+    let (words, (staying, margin)) = (pool.words_mut(), s.stay.passed());
     // SAFETY: the slices and the eight shares are valid for their lengths, and a &mut overlaps nothing.
     let answer = unsafe {
         ffi::uttt_judge_games(
@@ -66,6 +68,8 @@ pub fn judge_games(
             s.limit,
             s.allowance,
             s.interval,
+            staying,
+            margin,
         )
     };
     Refusal::check_games(answer.code, answer.index, records.len() / RECORD_BYTES)?;

@@ -20,12 +20,14 @@ mod ffi;
 mod games;
 mod pool;
 mod refusal;
+mod stay;
 
 pub use answer::{Cause, FullResult, FullVerdict, SearchResult, Verdict};
 pub use book::{add_to, lookup_in, publish_in, Book, Caller};
 pub use games::{judge_games, GamesSettings};
 pub use pool::Pool;
 pub use refusal::Refusal;
+pub use stay::Stay;
 
 /// Bytes of a record.
 pub const RECORD_BYTES: usize = 21;
@@ -77,8 +79,8 @@ impl Rule {
     }
 }
 
-/// What bounds a search beside its pool. The default is the program judge's.
-#[derive(Clone, Copy, Debug, PartialEq, Eq, Hash)]
+/// What bounds a search beside its pool, and how it goes. The default is the program judge's.
+#[derive(Clone, Copy, Debug, PartialEq)]
 pub struct Settings {
     /// The most live nodes, looked at on every interval-th expansion.
     pub limit: u64,
@@ -86,11 +88,13 @@ pub struct Settings {
     pub budget: u64,
     /// 1 to 1,000,000.
     pub interval: u64,
+    /// Whether it stays on a line.
+    pub stay: Stay,
 }
 
 impl Default for Settings {
     fn default() -> Settings {
-        Settings { limit: u64::MAX, budget: 100_000, interval: 10_000 }
+        Settings { limit: u64::MAX, budget: 100_000, interval: 10_000, stay: Stay::Off }
     }
 }
 
@@ -179,7 +183,7 @@ pub fn agreed_opening_into<'a>(first: &'a [u8], second: &[u8], output: &mut [u8]
 
 /// Searches the position under a rule.
 pub fn search(record: &[u8], pool: &mut Pool, rule: Rule, s: &Settings) -> Result<SearchResult, Refusal> {
-    let words = pool.words_mut();
+    let (words, (staying, margin)) = (pool.words_mut(), s.stay.passed());
     // SAFETY: both slices are valid for their lengths, and a &mut overlaps nothing.
     let answer = unsafe {
         ffi::uttt_search(
@@ -191,6 +195,8 @@ pub fn search(record: &[u8], pool: &mut Pool, rule: Rule, s: &Settings) -> Resul
             s.limit,
             s.budget,
             s.interval,
+            staying,
+            margin,
         )
     };
     Refusal::check(answer.code, answer.index)?;
@@ -199,7 +205,7 @@ pub fn search(record: &[u8], pool: &mut Pool, rule: Rule, s: &Settings) -> Resul
 
 /// Searches under rule 1, then under rule 2, each with the whole pool and the whole budget.
 pub fn full_verdict(record: &[u8], pool: &mut Pool, s: &Settings) -> Result<FullResult, Refusal> {
-    let words = pool.words_mut();
+    let (words, (staying, margin)) = (pool.words_mut(), s.stay.passed());
     // SAFETY: both slices are valid for their lengths, and a &mut overlaps nothing.
     let answer = unsafe {
         ffi::uttt_full_verdict(
@@ -210,6 +216,8 @@ pub fn full_verdict(record: &[u8], pool: &mut Pool, s: &Settings) -> Result<Full
             s.limit,
             s.budget,
             s.interval,
+            staying,
+            margin,
         )
     };
     Refusal::check(answer.code, answer.index)?;

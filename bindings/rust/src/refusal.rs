@@ -52,6 +52,8 @@ pub enum Refusal {
     GameCount,
     /// 20 as well: the shares of the games sum above the allowance.
     SharesOverAllowance,
+    /// 21: the margin is not a whole multiple of 1/256 from 0 to 1.
+    Margin,
     /// 2 to 6 where games are judged: the game's index, and what is wrong with its record, one of the five from
     /// [`Refusal::RecordBits`] to [`Refusal::TargetDone`].
     InGame(usize, &'static Refusal),
@@ -86,6 +88,7 @@ impl Refusal {
             17 => Refusal::BookSize,
             18 => Refusal::BookFull,
             19 => Refusal::TrainerWrites,
+            21 => Refusal::Margin,
             _ => crate::answer::unnamed("code", code),
         })
     }
@@ -100,7 +103,7 @@ impl Refusal {
         })
     }
 
-    /// The number in the table of refusals, 1 to 20.
+    /// The number in the table of refusals, 1 to 21.
     pub fn number(self) -> u32 {
         match self {
             Refusal::RecordLength => 1,
@@ -123,6 +126,7 @@ impl Refusal {
             Refusal::BookFull => 18,
             Refusal::TrainerWrites => 19,
             Refusal::GameCount | Refusal::SharesOverAllowance => 20,
+            Refusal::Margin => 21,
             Refusal::InGame(_, fault) => fault.number(),
         }
     }
@@ -167,6 +171,7 @@ impl Refusal {
             Refusal::TrainerWrites => "trainers may look up, but not add or publish",
             Refusal::GameCount => "there is no game to judge, or there are over eight",
             Refusal::SharesOverAllowance => "the shares of the games sum above the allowance",
+            Refusal::Margin => "the margin is not a whole multiple of 1/256 from 0 to 1",
             Refusal::InGame(_, fault) => fault.words(),
         }
     }

@@ -17,7 +17,7 @@ const WRAPPER: &str = include_str!("../src/ffi.rs");
 const HEADER: &str = include_str!("../../../include/ultimattt.h");
 
 /// Types of C as the wrapper writes them; what holds another comes first.
-const TYPES: [(&str, &str); 16] = [
+const TYPES: [(&str, &str); 17] = [
     ("struct uttt_replay_answer", "ReplayAnswer"),
     ("struct uttt_moves_answer", "MovesAnswer"),
     ("struct uttt_referee_answer", "RefereeAnswer"),
@@ -34,6 +34,7 @@ const TYPES: [(&str, &str); 16] = [
     ("uint32_t", "u32"),
     ("uint64_t", "u64"),
     ("size_t", "usize"),
+    ("double", "f64"),
 ];
 
 /// For each name, its parts in order.
@@ -202,6 +203,7 @@ fn refusals() {
         ("TRAINER_WRITES", Refusal::TrainerWrites),
         ("GAMES_OR_SHARES", Refusal::GameCount),
         ("GAMES_OR_SHARES", Refusal::SharesOverAllowance),
+        ("MARGIN", Refusal::Margin),
     ];
     for (name, refusal) in named {
         assert_eq!(number(name), u64::from(refusal.number()), "{name}");

@@ -10,7 +10,7 @@ use ultimattt::{BUDGET_MOST, GAMES_MOST, INTERVAL_MOST, NODE_WORDS, POOL_MOST};
 /// The two passes told with searches from the start: what each game is granted, and its result.
 fn alone(games: &[Record], nodes: usize, rule: Rule, s: &GamesSettings) -> Vec<(u64, SearchResult)> {
     let searched = |record: &Record, budget| {
-        let settings = Settings { limit: s.limit, budget, interval: s.interval };
+        let settings = Settings { limit: s.limit, budget, interval: s.interval, stay: s.stay };
         (budget, search(record, &mut pool(nodes / games.len()), rule, &settings).expect("an accepted search"))
     };
     let mut results: Vec<_> = games.iter().zip(s.shares).map(|(record, share)| searched(record, share)).collect();

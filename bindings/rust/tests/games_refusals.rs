@@ -4,8 +4,9 @@ mod common;
 
 use common::ffi::{uttt_judge_games, GamesAnswer, ResultFields};
 use common::games::{eight, shared};
-use common::{pool, refused_records, w, E};
-use ultimattt::{judge_games, GamesSettings, Pool, Refusal, Rule, BUDGET_MOST, GAMES_MOST, INTERVAL_MOST, POOL_MOST};
+use common::{passed, pool, refused_records, w, E};
+use ultimattt::{judge_games, GamesSettings, Pool, Refusal, Rule, Stay};
+use ultimattt::{BUDGET_MOST, GAMES_MOST, INTERVAL_MOST, POOL_MOST};
 
 /// What the pool holds before a call.
 const WORD: u32 = 0xA5A5_A5A5;
@@ -13,8 +14,10 @@ const WORD: u32 = 0xA5A5_A5A5;
 /// The answer to any rule, those that the wrapper has no name for too.
 fn answer(records: &[u8], pool: &mut [u32], rule: u64, s: &GamesSettings) -> GamesAnswer {
     let (at, length, words, number) = (records.as_ptr(), records.len(), pool.as_mut_ptr(), pool.len());
+    let GamesSettings { limit, allowance, interval, shares, stay } = s;
+    let (staying, margin) = passed(*stay);
     // SAFETY: the slices and the eight shares are valid for their lengths, and a &mut overlaps nothing.
-    unsafe { uttt_judge_games(at, length, words, number, &s.shares, rule, s.limit, s.allowance, s.interval) }
+    unsafe { uttt_judge_games(at, length, words, number, shares, rule, *limit, *allowance, *interval, staying, margin) }
 }
 
 /// Code and index of a refusal, whose other fields are 0 and which leaves every word of the pool.
@@ -184,7 +187,8 @@ fn shares_above_the_allowance() {
 fn order_of_the_checks() {
     let refusals = refused_records();
     let over = shared(1, &[1; GAMES_MOST]);
-    let late = GamesSettings { interval: 0, ..over };
+    let bad = GamesSettings { stay: Stay::Margin(f64::NAN), ..over };
+    let late = GamesSettings { interval: 0, ..bad };
     let mut records = vec![[0xFF; 22].to_vec(); 9];
     assert_eq!(refused(&records.concat(), 4, 3, &late), (1, 0));
     records = vec![refusals[1].clone(); 9];
@@ -196,9 +200,10 @@ fn order_of_the_checks() {
     }
     let accepted = eight().concat();
     assert_eq!(refused(&accepted, 39, 3, &late), (8, 0));
-    assert_eq!(refused(&accepted, 40, 3, &over), (10, 0));
+    assert_eq!(refused(&accepted, 40, 3, &bad), (10, 0));
     assert_eq!(refused(&accepted, 40, 2, &late), (10, 0));
     assert_eq!(refused(&accepted, 40, 2, &shared(1, &[BUDGET_MOST + 1; 8])), (10, 0));
+    assert_eq!(refused(&accepted, 40, 2, &bad), (21, 0));
     assert_eq!(refused(&accepted, 40, 2, &over), (20, 0));
     let mut large = Pool::from_words(vec![0; (POOL_MOST + 1) * 5]);
     assert_eq!(judge_games(&accepted, &mut large, Rule::DrawTrue, &late), Err(Refusal::PoolTooLarge));

@@ -23,14 +23,17 @@ fn lookup_raw(trainer: bool, book: &[u8], count: u64, record: &[u8], rule: u64) 
     (a.code, a.index, a.verdict)
 }
 
-/// Code, index, verdict and count of a trainer's add.
+/// Code, index, verdict and count of a trainer's add, whose margin is wrong.
 fn trainers_add(book: &mut [u8], count: u64, record: &[u8], pool: &mut [u32], s: [u64; 4]) -> (u32, u64, u32, u64) {
     let (at, length, words, number) = (book.as_mut_ptr(), book.len(), pool.as_mut_ptr(), pool.len());
     let [rule, limit, budget, interval] = s;
     let (bytes, size) = (record.as_ptr(), record.len());
     // SAFETY: the three slices are valid for their lengths, and a &mut overlaps nothing.
     let a = unsafe {
-        ffi::uttt_book_add(true, at, length, count, bytes, size, words, number, rule, limit, budget, interval)
+        let (trainer, staying, margin) = (true, true, f64::NAN);
+        ffi::uttt_book_add(
+            trainer, at, length, count, bytes, size, words, number, rule, limit, budget, interval, staying, margin,
+        )
     };
     (a.code, a.index, a.verdict, a.count)
 }

@@ -8,7 +8,8 @@ use ultimattt::Caller::{Arbiter, Trainer};
 use ultimattt::{
     agreed_opening_into, full_verdict, judge_games, legal_moves_into, referee, replay, replay_into, search,
 };
-use ultimattt::{Book, Pool, Refusal, Rule, Settings, BUDGET_MOST, INTERVAL_MOST, NODE_WORDS, POOL_MOST};
+use ultimattt::{Book, GamesSettings, Pool, Refusal, Rule, Settings, Stay};
+use ultimattt::{BUDGET_MOST, INTERVAL_MOST, NODE_WORDS, POOL_MOST};
 
 /// Words for a lone call and for games.
 const NOT_21_BYTES: &str = "the record is not 21 bytes long (games: the records are not 21 bytes each)";
@@ -81,7 +82,7 @@ fn settings() {
     }
     refused(searched(30, Settings { budget: BUDGET_MOST + 1, ..usual }), Refusal::SettingRange, 10, words);
     for interval in [1, INTERVAL_MOST] {
-        assert!(searched(30, Settings { interval, budget: BUDGET_MOST, limit: 0 }).is_ok());
+        assert!(searched(30, Settings { interval, budget: BUDGET_MOST, limit: 0, ..usual }).is_ok());
     }
 }
 
@@ -149,6 +150,17 @@ fn games() {
 }
 
 #[test]
+fn margins() {
+    let words = "the margin is not a whole multiple of 1/256 from 0 to 1";
+    let bad = Stay::Margin(f64::NAN);
+    refused(searched(30, Settings { stay: bad, ..Settings::default() }), Refusal::Margin, 21, words);
+    let settings = GamesSettings { stay: bad, ..shared(7, &[4]) };
+    refused(judge_games(&w(), &mut pool(90), Rule::DrawFalse, &settings), Refusal::Margin, 21, words);
+    let settings = Settings { stay: bad, ..Settings::default() };
+    refused(Book::new(1).add(Arbiter, &w(), &mut pool(9), Rule::DrawFalse, &settings), Refusal::Margin, 21, words);
+}
+
+#[test]
 fn index_with_moves_and_games_alone() {
     assert_eq!(Refusal::NotEmpty(7).index(), Some(7));
     assert_eq!(Refusal::InGame(7, &Refusal::RecordBits).index(), Some(7));
@@ -156,6 +168,7 @@ fn index_with_moves_and_games_alone() {
     assert_eq!(Refusal::TooManyEmpty.index(), None);
     assert_eq!(Refusal::TrainerWrites.index(), None);
     assert_eq!(Refusal::GameCount.index(), None);
+    assert_eq!(Refusal::Margin.index(), None);
 }
 
 /// The first check in the call's order is the answer, whatever else is wrong.

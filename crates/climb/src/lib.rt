@@ -57,8 +57,8 @@ fn has_delta(words: &[u32], first: NodeID, delta: u32) -> bool
 }
 
 // The phi of a node that had the phi `held`, where one of its children has a new delta. With the setting off that child was the first listed with the delta
-// `held`: if there is still one, it comes later. With a margin one that comes earlier may have it too, or the child may have had another delta: then nothing is found
-// after it, and the least delta is worked out anew. So more may be read with a margin, and the number is the same.
+// `held`: if there is still one, it comes later. With a margin another child may have it, before that one or after it. One after it is
+// found, and phi stays; if none is, the least delta is worked out anew, over those before it too. So more may be read with a margin, and the number is the same.
 fn raised_phi(words: &[u32], first: NodeID, child: NodeID, held: u32, delta: u32) -> u32
     requires { ⌜ PhiRaisable (now words) (first .0) (child .0) held delta ⌝ }
     ensures { λ r. ⌜ RaisesPhi (now (words .entry)) (first .0) (child .0) held delta r ⌝ }

@@ -1,4 +1,4 @@
--- What the functions of step 2 ask for and come to. Rests on plain, words and prover.
+-- What the functions of step 2 ask for and come to. Rests on plain, words, stay and prover.
 use mathlib.Core.Path.{_≡_}
 use mathlib.Core.List.{List}
 use mathlib.Core.Bool.{Bool, false}

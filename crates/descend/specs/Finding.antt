@@ -12,6 +12,7 @@ use Rattle.rules.specs.Rules.{Position}
 use Rattle.machine.specs.Tree.{Node, Children, solved}
 use Rattle.machine.specs.Machine.{hasDelta, hasMove, firstThat, firstWith, holdsAt, withinMargin, choice, off, margin}
 use Rattle.machine.specs.Place.{pool-max}
+use Rattle.machine.specs.Standard.{choice-by}
 use Rattle.words.specs.Packed.{View, moveIn, packed-read}
 use Rattle.words.specs.Words.{NONE, PHI, DELTA, PACKED, SIBLING, word, Slot}
 use Rattle.words.specs.Walks.{Standing, standing, Looking, Chosen, chosen-holds, looking-start, looking-walks, looking-next, looking-found, looking-none}
@@ -88,19 +89,12 @@ module _ (K : View Position) (w : List ℕ) (first phi remembered : ℕ) (n : No
         go (yes e) = there .nowhere e (withinMargin (stepsIn f) phi) ∙ sym (o .nowhere e)
         go (no z) = let c = there .at z in chosen-holds K w first ks _ j c (withinMargin (stepsIn f) phi) ∙ sym (o .at K (c .node) (c .part .0))
 
-    by-test : ℕ → Bool → ℕ
-    by-test i b = elim b [ true ↦ i | false ↦ firstWith (n .phi) ks ]
-
     pub chosen-again : r ≡ true → Chosen K w first ks (choice (margin (stepsIn f)) n ks) j
-    unfolding choice by-test
     chosen-again e =
         let z : j ≡ NONE → ⊥ = λ q. true≢false (sym e ∙ o .nowhere q) in
         let same : choice (margin (stepsIn f)) n ks ≡ firstThat (hasMove remembered) ks =
-        ap (by-test (firstThat (hasMove (n .remembered)) ks)) (test ∙ e) ∙ ap (λ (x : ℕ). firstThat (hasMove x) ks) (l .remembered-is) in
+        choice-by (stepsIn f) n ks true (test ∙ e) ∙ ap (λ (x : ℕ). firstThat (hasMove x) ks) (l .remembered-is) in
         rw same (there .at z)
 
     pub chosen-else : r ≡ false → (i : ℕ) → Selects w first phi i → Chosen K w first ks (choice (margin (stepsIn f)) n ks) i
-    unfolding choice by-test
-    chosen-else e i s =
-        let same : choice (margin (stepsIn f)) n ks ≡ firstWith (n .phi) ks = ap (by-test (firstThat (hasMove (n .remembered)) ks)) (test ∙ e) in
-        rw same (chosen-listed i s)
+    chosen-else e i s = rw (choice-by (stepsIn f) n ks false (test ∙ e)) (chosen-listed i s)

@@ -1,4 +1,4 @@
-// Step 2 of the plain machine: from the current node down to a leaf. Port of pn.rs's select_most_proving.
+// Step 2 of the plain machine: from the current node down to a leaf. Port of pn.rs's select_most_proving; staying on a line is added.
 
 ghost use mathlib.Core.Path.{_≡_};
 ghost use mathlib.Core.Bool.{true, false};
@@ -83,7 +83,7 @@ fn within_margin(words: &[u32], id: NodeID, phi: u32, margin: f64) -> bool
     stay::within(phi, margin, delta)
 }
 
-// The child that step 2 takes at a node with these numbers: with a margin the one that the remembered move names, if it is within it.
+// The child that step 2 takes at a node that has this first child, phi and packed word: with a margin the one that the remembered move names, if it is within it.
 fn choose(words: &[u32], first: NodeID, phi: u32, packed: u32, stay: Stay) -> NodeID
     requires { ⌜ Choosing (now words) (first .0) phi (rememberedIn packed) × StayInRange stay ⌝ }
     ensures { λ r. ⌜ Chooses stay (now (words .entry)) (first .0) phi (rememberedIn packed) (r .0) ⌝ }

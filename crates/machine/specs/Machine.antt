@@ -11,7 +11,8 @@ pub data Stay : Type 0 where
   off : Stay
   margin : (k : ℕ) → Stay
 
-abbrev pub Settings : Type 0  -- what a search is given; of the pool, its number of nodes and never its words
+-- What a search is given; of the pool, its number of nodes and never its words. The steps read all but stay, which the policy is made from
+abbrev pub Settings : Type 0
 Settings = record { pool : ℕ; limit : ℕ; budget : ℕ; interval : ℕ; stay : Stay }
 
 abbrev pub Counts : Type 0  -- what the machine counts
@@ -117,7 +118,7 @@ module _ (G : Game) where
   unfoldable pub children : G .Pos → Children (G .Pos)  -- all that step 4 makes
   children p = make p (G .moves p) none
 
-  -- The choices of MANUAL, Search, with a setting: step 3 asks for as many nodes as step 4 makes
+  -- The choices of MANUAL, Search and Staying on a line, with a setting: `choice` in step 2; step 3 asks for as many nodes as step 4 makes
   unfoldable pub standard : Stay → Policy G
   standard y = record { select = λ n ks. choice y n ks; need = λ p. size (children p) }
 

@@ -3,10 +3,11 @@
 use mathlib.Core.Path.{_≡_, refl, ap, sym}
 use mathlib.Core.List.{List, [], _∷_}
 use mathlib.Core.Bool.{Bool, true, false, true≢false, not, _&&_, _||_, Bool·beq}
-use Prim.Native.Nat.{ℕ, zero, suc, _+_, _*_, _<_}
+use mathlib.Core.Logic.{_↔_}
+use Prim.Native.Nat.{ℕ, zero, suc, _+_, _*_, _≤_, _<_}
 use native.Mathlib.Omega.{arith}
 use lib.Dec.{eqb, leb}
-use borrow.Author.Tests.{eqb-true, eqb-false}
+use borrow.Author.Tests.{eqb-true, eqb-false, leb-true, le-leb}
 use Rattle.machine.specs.Game.{Game}
 use Rattle.machine.specs.Tree.{INFINITY, Node, Children, none, child, leastDelta, bound, leaf, solved}
 use Rattle.machine.specs.Machine.{Stay, off, margin, Settings, State, Policy, firstThat, firstWith, hasMove, holdsAt, withinMargin, choice, standard, start, rootOf, root, run, ends}
@@ -35,26 +36,39 @@ first-open x (child n c ks) h a b e = go (eqb (n .delta) x) refl (λ q. first-op
 pub listed-open : {Pos : Type 0} (n : Node Pos) (ks : Children Pos) → Choosable n ks → UnsolvedAt ks (firstWith (n .phi) ks)
 listed-open n ks c = first-open (n .phi) ks (c .infinite) (c .phi-pos) (omega (arith, c .phi-small)) (c .phi-is)
 
--- A child within the margin is unsolved
+-- A child is within the margin exactly if it is unsolved and its delta is at most the product
+pub within-both : {Pos : Type 0} (k phi : ℕ) (m : Node Pos) → (withinMargin k phi m ≡ true) ↔ ((solved m ≡ false) × (256 * m .delta ≤ phi * (256 + k)))
+unfolding withinMargin
+within-both k phi m = (λ e. go (solved m) refl e, λ h. rw (h .0, le-leb (256 * m .delta) (phi * (256 + k)) (h .1)))
+  where
+    go : (b : Bool) → solved m ≡ b → not b && leb (256 * m .delta) (phi * (256 + k)) ≡ true → (solved m ≡ false) × (256 * m .delta ≤ phi * (256 + k))
+    go true q e = absurd (true≢false (sym e))
+    go false q e = (q, leb-true _ _ e)
+
 within-open : {Pos : Type 0} (k phi : ℕ) (ks : Children Pos) (i : ℕ) → holdsAt (withinMargin k phi) ks i ≡ true → UnsolvedAt ks i
-unfolding holdsAt withinMargin
+unfolding holdsAt
 within-open k phi none i e = absurd (true≢false (sym e))
 within-open k phi (child m b ks) (suc i) e = within-open k phi ks i e
-within-open k phi (child m b ks) zero e = go (solved m) refl e
+within-open k phi (child m b ks) zero e = open-of m (within-both k phi m .0 e .0)
+
+-- With a margin: by whether the child that the remembered move names is within it
+pub choice-by : {Pos : Type 0} (k : ℕ) (n : Node Pos) (ks : Children Pos) (t : Bool) → holdsAt (withinMargin k (n .phi)) ks (firstThat (hasMove (n .remembered)) ks) ≡ t
+    → choice (margin k) n ks ≡ elim t [ true ↦ firstThat (hasMove (n .remembered)) ks | false ↦ firstWith (n .phi) ks ]
+unfolding choice
+choice-by k n ks t e = ap taken e
   where
-    go : (t : Bool) → solved m ≡ t → not t && leb (256 * m .delta) (phi * (256 + k)) ≡ true → (0 < m .phi) × (0 < m .delta)
-    go true q z = absurd (true≢false (sym z))
-    go false q z = open-of m q
+    taken : Bool → ℕ
+    taken b = elim b [ true ↦ firstThat (hasMove (n .remembered)) ks | false ↦ firstWith (n .phi) ks ]
 
 -- The child that step 2 takes with a setting is unsolved
 choice-open : {Pos : Type 0} (y : Stay) (n : Node Pos) (ks : Children Pos) → Choosable n ks → UnsolvedAt ks (choice y n ks)
 unfolding choice
 choice-open off n ks c = listed-open n ks c
-choice-open (margin k) n ks c = go (firstThat (hasMove (n .remembered)) ks) (holdsAt (withinMargin k (n .phi)) ks (firstThat (hasMove (n .remembered)) ks)) refl
+choice-open (margin k) n ks c = go (holdsAt (withinMargin k (n .phi)) ks (firstThat (hasMove (n .remembered)) ks)) refl
   where
-    go : (i : ℕ) (t : Bool) → holdsAt (withinMargin k (n .phi)) ks i ≡ t → UnsolvedAt ks (elim t [ true ↦ i | false ↦ firstWith (n .phi) ks ])
-    go i true q = within-open k (n .phi) ks i q
-    go i false q = listed-open n ks c
+    go : (t : Bool) → holdsAt (withinMargin k (n .phi)) ks (firstThat (hasMove (n .remembered)) ks) ≡ t → UnsolvedAt ks (choice (margin k) n ks)
+    go true q = rw (choice-by k n ks true q) (within-open k (n .phi) ks _ q)
+    go false q = rw (choice-by k n ks false q) (listed-open n ks c)
 
 module _ (G : Game) (L : Lawful G) where
   pub standard-sane : (y : Stay) → Sane G (standard G y)

@@ -18,7 +18,7 @@ unfoldable taken : Stay → Node (Unit {0}) → Children (Unit {0}) → ℕ
 unfolding solved firstThat holdsAt withinMargin choice
 taken y n ks = choice y n ks
 
--- Of two level children off takes the first listed; margin 0 takes again the one that the remembered move names, and without one the first listed
+-- Of two level children off takes the first listed; margin 0 takes again the one that the remembered move names. Where none is remembered it is as with off
 level-off : taken off (at 3 7) (by 8 1 3 (by 7 1 3 none)) ≡ 0
 unfolding taken
 level-off = refl
@@ -62,8 +62,8 @@ past-largest-1 : taken (margin 256) (at 16777215 7) (by 7 1 33554431 (by 8 1 167
 unfolding taken
 past-largest-1 = refl
 
--- The child taken last is solved: won by the other side, or lost by it
-now-proved : taken (margin 256) (at 3 7) (by 7 0 INFINITY (by 8 1 3 none)) ≡ 1
+-- The child taken last is solved: its phi is 0, or its delta. (In a search the delta beside a phi of 0 is INFINITY at least, which no margin reaches.)
+now-proved : taken (margin 256) (at 3 7) (by 7 0 4 (by 8 1 3 none)) ≡ 1
 unfolding taken
 now-proved = refl
 

@@ -165,7 +165,7 @@ pub fn remembered_in(packed: u32) -> Move
     Move((packed / REMEMBERED % 256) as u8)
 }
 
-// The remembered move of a node that has this packed word.
+// Sets the remembered move of a node whose packed word is `packed`.
 pub fn remember(words: &mut [u32], id: NodeID, packed: u32, mv: Move)
     requires { ⌜ Slot (now words) (id .0) ⌝ }
     ensures { λ _. ⌜ now (words .exit) ≡ setWord (now (words .entry)) (id .0) PACKED (withRemembered packed (mv .0)) ⌝ }

@@ -20,7 +20,7 @@ pub record Answered (rule : ℕ) (bytes : List ℕ) (S : Settings) : Type 0 wher
   pub unknown : (plainSearch rule S bytes .verdict ≡ Unknown) ↔ ((0 < plainSearch rule S bytes .proof) × (0 < plainSearch rule S bytes .disproof))
   pub decided : recordSequences bytes ≤ S .pool → recordSequences bytes ≤ S .limit → recordSequences bytes ≤ S .budget → plainSearch rule S bytes .verdict ≡ Unknown → ⊥
 
--- Two: if the first answers, and the second has the same interval and stays alike, with no less pool, limit and budget, they are alike in every field.
+-- Two: if the first answers, and the second has the same interval and setting of staying on a line, with no less pool, limit and budget, they are alike in every field.
 pub record TwoSearches (rule : ℕ) (bytes : List ℕ) (S T : Settings) : Type 0 where
   pub first : Answered rule bytes S
   pub second : Answered rule bytes T

@@ -1,4 +1,4 @@
--- What the code's settings and result are to the plain machine. Definitions alone; rests on machine, prove and words.
+-- What the code's settings and result are to the plain machine. Definitions alone; rests on machine, prove, stay and words.
 use mathlib.Core.List.{List}
 use Prim.Native.Nat.{ℕ}
 use Rattle.machine.specs.Machine as machine

@@ -1,7 +1,7 @@
 -- Laws of lists of checks: what a list that refuses nothing tells of each check, and which check of a list refuses. Rests on Refusals.
 use mathlib.Core.Path.{_≡_, refl}
 use mathlib.Core.Bool.{Bool, true, false, not}
-use mathlib.Core.List.{List, [], _∷_}
+use mathlib.Core.List.{List, [], _∷_, _++_}
 use Prim.Native.Nat.{ℕ, zero, suc}
 use native.Mathlib.Omega.{arith}
 use Rattle.rules.specs.Refusals.{refuses, firstRefusal}
@@ -28,6 +28,25 @@ pub last-refuses : (n : ℕ) → firstRefusal (n ∷ []) ≡ n
 unfolding firstRefusal
 last-refuses zero = refl
 last-refuses (suc n) = refl
+
+-- a check after all others: it refuses where these refuse nothing, and where it passes it changes nothing
+pub last-check : (ns : List ℕ) (x : ℕ) → firstRefusal ns ≡ 0 → firstRefusal (ns ++ (x ∷ [])) ≡ x
+unfolding firstRefusal
+last-check [] x e = last-refuses x
+last-check (zero ∷ ns) x e = last-check ns x e
+last-check (suc n ∷ ns) x e = absurd (omega arith)
+
+pub others-first : (ns : List ℕ) (x n : ℕ) → firstRefusal ns ≡ suc n → firstRefusal (ns ++ (x ∷ [])) ≡ suc n
+unfolding firstRefusal
+others-first [] x n e = absurd (omega arith)
+others-first (zero ∷ ns) x n e = others-first ns x n e
+others-first (suc k ∷ ns) x n e = e
+
+pub passes-last : (ns : List ℕ) → firstRefusal (ns ++ (0 ∷ [])) ≡ firstRefusal ns
+unfolding firstRefusal
+passes-last [] = refl
+passes-last (zero ∷ ns) = passes-last ns
+passes-last (suc n ∷ ns) = refl
 
 -- a check that passes: what it looks for isn't so, or what it asks for is
 pub passes-check : (n : ℕ) (wrong : Bool) → refuses (suc n) wrong ≡ 0 → wrong ≡ false

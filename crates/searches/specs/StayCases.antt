@@ -14,7 +14,7 @@ use Rattle.searches.specs.Searches.{Limits, limits, nodes, settings, sea
 use Rattle.searches.specs.SearchAnswers.{search-answered}
 use Rattle.searches.specs.StepThree.{pool}
 
--- C of the manual: O, to move, wins under rule 0, and the three ways to choose a child differ
+-- C of the manual: O, to move, wins under rule 0; off, margin 0 and margin 1 give three results
 abbrev pub C : List ℕ
 C = record21 0xBB244D24514B352054802882AC02CCB28294CACC54
 
@@ -35,13 +35,16 @@ of-C pool rule budget stay result = record { pool = pool; rule = rule; budget = 
 
 abbrev pub stayCases : List StayCase
 stayCases =
-    -- off; margin 0 and negative zero; 1/2, which is too little for another choice here; 1
+    -- off; margin 0 and negative zero; 1/256, 1/4 and 1/2, which are too little for another choice here; 1
     of-C 3276 0 100000 Off (fields True 0 2147483649 9 8 4 0 5 0) ∷
     of-C 3276 0 100000 (by-bits 0x0000000000000000) (fields True 0 2147483648 15 14 4 4 9 0) ∷
     of-C 3276 0 100000 (by-bits 0x8000000000000000) (fields True 0 2147483648 15 14 4 4 9 0) ∷
+    of-C 3276 0 100000 (by-bits 0x3F70000000000000) (fields True 0 2147483648 15 14 4 4 9 0) ∷
+    of-C 3276 0 100000 (by-bits 0x3FD0000000000000) (fields True 0 2147483648 15 14 4 4 9 0) ∷
     of-C 3276 0 100000 (by-bits 0x3FE0000000000000) (fields True 0 2147483648 15 14 4 4 9 0) ∷
     of-C 3276 0 100000 (by-bits 0x3FF0000000000000) (fields True 0 2147483649 7 6 4 0 4 0) ∷
-    -- with margin 0, one node too few for an answer, and one more; a budget that is spent, with a part freed
+    -- nodes that are enough with off; with margin 0, one too few for an answer, and one more; a budget that is spent, with a part freed
+    of-C 8 0 100000 Off (fields True 0 2147483649 9 8 4 0 5 0) ∷
     of-C 11 0 100000 (by-bits 0x0000000000000000) (fields Unknown 2 3 11 0 0 0 5 2) ∷
     of-C 12 0 100000 (by-bits 0x0000000000000000) (fields True 0 2147483648 15 14 4 4 9 0) ∷
     of-C 3276 0 8 (by-bits 0x0000000000000000) (fields Unknown 1 1 14 9 1 4 8 1) ∷
@@ -54,7 +57,7 @@ plain-results : map (λ c. plainSearch (c .rule) (settings (pool (c .pool)) (sta
 unfolding computedSearch by-bits
 plain-results = refl
 
-accepted : map (λ c. searchRefusal C (nodes (pool (c .pool))) (c .rule) (staying (c .budget) (c .stay))) stayCases ≡ 0 ∷ 0 ∷ 0 ∷ 0 ∷ 0 ∷ 0 ∷ 0 ∷ 0 ∷ 0 ∷ 0 ∷ []
+accepted : map (λ c. searchRefusal C (nodes (pool (c .pool))) (c .rule) (staying (c .budget) (c .stay))) stayCases ≡ 0 ∷ 0 ∷ 0 ∷ 0 ∷ 0 ∷ 0 ∷ 0 ∷ 0 ∷ 0 ∷ 0 ∷ 0 ∷ 0 ∷ 0 ∷ []
 unfolding computedSearch positionRefusal refusal firstRefusal searchRefusal by-bits
 accepted = refl
 

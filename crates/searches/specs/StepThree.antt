@@ -18,7 +18,7 @@ use Rattle.searches.specs.Searches.{Limits, limits, nodes, settings, Ans
 unfoldable pub searchForMoves : ℕ → Settings → List ℕ → Result
 searchForMoves rule S bytes = let p = positionOf bytes in search (gameOf rule p) (askingForMoves (gameOf rule p) (S .stay)) S p
 
--- A pool of so many nodes, in words; the program judge's limit and interval, with a budget.
+-- A pool of so many nodes, in words; the program judge's limit, interval and off, with a budget.
 abbrev pub pool : ℕ → ℕ
 pool n = n * 5
 

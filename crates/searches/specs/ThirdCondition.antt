@@ -19,8 +19,8 @@ pub record ThirdCondition (bytes : List ℕ) (rule : ℕ) (S T : Limits) (words 
   pub first-false : r .verdict ≡ False → recordValue rule bytes ≡ false
   pub second-true : s .verdict ≡ True → recordValue rule bytes ≡ true
   pub second-false : s .verdict ≡ False → recordValue rule bytes ≡ false
-  -- If the first answers, with True or False, and the second has the same interval, stays alike, and has no less pool, limit and budget, they are alike in
-  -- every field. The other clauses ask nothing of the setting.
+  -- If the first answers, with True or False, and the second has the same interval and setting of staying on a line, and no less pool, limit and
+  -- budget, they are alike in every field. The other clauses ask nothing of the setting.
   pub alike : T .interval ≡ S .interval → stayOf (T .stay) ≡ stayOf (S .stay) → nodes words ≤ nodes words′ → S .limit ≤ T .limit → S .budget ≤ T .budget → (r .verdict ≡ Unknown → ⊥) → s ≡ r
   -- Each is Unknown exactly when neither proof nor disproof is 0.
   pub first-unknown : (r .verdict ≡ Unknown) ↔ ((r .proof ≡ 0 → ⊥) × (r .disproof ≡ 0 → ⊥))

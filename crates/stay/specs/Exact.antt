@@ -21,18 +21,23 @@ use lib.Ieee.Fits.{down-pos}
 use lib.Ieee.Scale.{round-same}
 use lib.Ieee.Order.{transfer}
 
+-- Of two floats that have values which are not negative, what holds of finite ones without a sign holds
+positives : (P : Float → Float → Type 0) (x y : Float) (a c b d : ℕ) → HasValue x false a c → HasValue y false b d
+    → ((m : ℕ) (e : ℤ) (n : ℕ) (g : ℤ) → HasValue (fin false m e) false a c → HasValue (fin false n g) false b d → P (fin false m e) (fin false n g)) → P x y
+positives P nan y a c b d h k f = absurd h
+positives P (inf s) y a c b d h k f = absurd h
+positives P (fin true m e) y a c b d h k f = absurd (true≢false (h .0))
+positives P (fin false m e) nan a c b d h k f = absurd k
+positives P (fin false m e) (inf t) a c b d h k f = absurd k
+positives P (fin false m e) (fin true n g) a c b d h k f = absurd (true≢false (k .0))
+positives P (fin false m e) (fin false n g) a c b d h k f = f m e n g h k
+
 pub mul-value : (x y : Float) (a c b d : ℕ) → 0 < c → 0 < d → HasValue x false a c → HasValue y false b d
     → mul binary64 x y ≡ round binary64 false (a * b) (c * d)
 unfolding mul
-mul-value nan y a c b d C D h k = absurd h
-mul-value (inf s) y a c b d C D h k = absurd h
-mul-value (fin true m e) y a c b d C D h k = absurd (true≢false (h .0))
-mul-value (fin false m e) nan a c b d C D h k = absurd k
-mul-value (fin false m e) (inf t) a c b d C D h k = absurd k
-mul-value (fin false m e) (fin true n g) a c b d C D h k = absurd (true≢false (k .0))
-mul-value (fin false m e) (fin false n g) a c b d C D h k =
+mul-value x y a c b d C D h k = positives (λ x y. mul binary64 x y ≡ round binary64 false (a * b) (c * d)) x y a c b d h k (λ m e n g h k.
     round-same binary64 false (m * up e * (n * up g)) (down e * down g) (a * b) (c * d) (mul-pos (down-pos e) (down-pos g)) (mul-pos C D)
-    (mul-mul-mul-comm (m * up e) (n * up g) c d ∙ ap (λ (z : ℕ). z * (n * up g * d)) (h .1) ∙ ap (λ (z : ℕ). a * down e * z) (k .1) ∙ mul-mul-mul-comm a (down e) b (down g))
+    (mul-mul-mul-comm (m * up e) (n * up g) c d ∙ ap (λ (z : ℕ). z * (n * up g * d)) (h .1) ∙ ap (λ (z : ℕ). a * down e * z) (k .1) ∙ mul-mul-mul-comm a (down e) b (down g)))
 
 -- a / 256 is a value of the format for a of at most 53 digits
 pub over-256 : (a : ℕ) → a < 2 ^ 53 → HasValue (round binary64 false a 256) false a 256
@@ -66,43 +71,35 @@ same-test A B C D f g = go (decLe A B)
 
 pub le-values : (x y : Float) (a c b d : ℕ) → 0 < c → 0 < d → HasValue x false a c → HasValue y false b d → le x y ≡ leb (a * d) (b * c)
 unfolding le
-le-values nan y a c b d C D h k = absurd h
-le-values (inf s) y a c b d C D h k = absurd h
-le-values (fin true m e) y a c b d C D h k = absurd (true≢false (h .0))
-le-values (fin false m e) nan a c b d C D h k = absurd k
-le-values (fin false m e) (inf t) a c b d C D h k = absurd k
-le-values (fin false m e) (fin true n g) a c b d C D h k = absurd (true≢false (k .0))
-le-values (fin false m e) (fin false n g) a c b d C D h k =
+le-values x y a c b d C D h k = positives (λ x y. le x y ≡ leb (a * d) (b * c)) x y a c b d h k (λ m e n g h k.
     at-most (m * up e * down g) (n * up g * down e)
     ∙ same-test (m * up e * down g) (n * up g * down e) (a * d) (b * c)
     (transfer a b c d (m * up e) (n * up g) (down e) (down g) (down-pos e) (down-pos g) (sym (h .1)) (sym (k .1)))
-    (transfer (m * up e) (n * up g) (down e) (down g) a b c d C D (h .1) (k .1))
+    (transfer (m * up e) (n * up g) (down e) (down g) a b c d C D (h .1) (k .1)))
 
 -- 2 ^ -8, the constant 0.00390625
 pub part : HasValue (Ieee.ofBits binary64 4571153621781053440) false 1 256
 part = unfold Ieee.ofBits Ieee.ofFields Ieee.odd Ieee.units in (refl, refl)
 
--- THEOREM: with f 1 plus k 256ths, the test of floats is that of whole numbers
+-- With f 1 plus k 256ths, the product is exact
+pub exact-product : (phi k : ℕ) (f : Float) → phi < 16777216 → k ≤ 256 → HasValue f false (256 + k) 256 → HasValue (mul binary64 (ofInt binary64 (pos phi)) f) false (phi * (256 + k)) 256
+exact-product phi k f hp hk v =
+    let q : 256 + k ≤ 512 = omega arith in
+    product (ofInt binary64 (pos phi)) f phi (256 + k) (whole phi (omega arith)) v (lt-of-le-of-lt (mul-le-mul (le-of-lt hp) q) (lit< {m = 16777216 * 512} tt))
+
+-- and the test of floats is that of whole numbers
 pub exact : (phi delta k : ℕ) (f : Float) → phi < 16777216 → k ≤ 256 → delta ≤ 2 ^ 53 → HasValue f false (256 + k) 256
     → le (ofInt binary64 (pos delta)) (mul binary64 (ofInt binary64 (pos phi)) f) ≡ leb (256 * delta) (phi * (256 + k))
 exact phi delta k f hp hk hd v =
-    let q : 256 + k ≤ 512 = omega arith in
-    let b : phi * (256 + k) < 2 ^ 53 = lt-of-le-of-lt (mul-le-mul (le-of-lt hp) q) (lit< {m = 16777216 * 512} tt) in
     le-values (ofInt binary64 (pos delta)) (mul binary64 (ofInt binary64 (pos phi)) f) delta 1 (phi * (256 + k)) 256 (lit< tt) (lit< tt)
-    (whole delta hd) (product (ofInt binary64 (pos phi)) f phi (256 + k) (whole phi (omega arith)) v b)
+    (whole delta hd) (exact-product phi k f hp hk v)
     ∙ ap (leb (delta * 256)) (mul-one (phi * (256 + k)))
     ∙ ap (λ (n : ℕ). leb n (phi * (256 + k))) (mul-comm delta 256)
 
 -- The sum of two fractions, where both are positive
 add-value : (x y : Float) (a c b d : ℕ) → 0 < c → 0 < d → HasValue x false a c → HasValue y false b d → add binary64 x y ≡ round binary64 false (a * d + b * c) (c * d)
 unfolding add sum
-add-value nan y a c b d C D h k = absurd h
-add-value (inf s) y a c b d C D h k = absurd h
-add-value (fin true m e) y a c b d C D h k = absurd (true≢false (h .0))
-add-value (fin false m e) nan a c b d C D h k = absurd k
-add-value (fin false m e) (inf t) a c b d C D h k = absurd k
-add-value (fin false m e) (fin true n g) a c b d C D h k = absurd (true≢false (k .0))
-add-value (fin false m e) (fin false n g) a c b d C D h k =
+add-value x y a c b d C D h k = positives (λ x y. add binary64 x y ≡ round binary64 false (a * d + b * c) (c * d)) x y a c b d h k (λ m e n g h k.
     let p : m * up e * down g * (c * d) ≡ a * d * (down e * down g) =
     mul-mul-mul-comm (m * up e) (down g) c d ∙ ap (λ (z : ℕ). z * (down g * d)) (h .1) ∙ ap (λ (z : ℕ). a * down e * z) (mul-comm (down g) d) ∙ mul-mul-mul-comm a (down e) d (down g) in
     let q : n * up g * down e * (c * d) ≡ b * c * (down e * down g) =
@@ -110,7 +107,7 @@ add-value (fin false m e) (fin false n g) a c b d C D h k =
     ∙ ap (λ (z : ℕ). b * down g * z) (mul-comm (down e) c) ∙ mul-mul-mul-comm b (down g) c (down e) ∙ ap (λ (z : ℕ). b * c * z) (mul-comm (down g) (down e)) in
     round-same binary64 false (m * up e * down g + n * up g * down e) (down e * down g) (a * d + b * c) (c * d) (mul-pos (down-pos e) (down-pos g)) (mul-pos C D)
     (add-mul (m * up e * down g) (n * up g * down e) (c * d) ∙ ap (λ (z : ℕ). z + n * up g * down e * (c * d)) p ∙ ap (λ (z : ℕ). a * d * (down e * down g) + z) q
-    ∙ sym (add-mul (a * d) (b * c) (down e * down g)))
+    ∙ sym (add-mul (a * d) (b * c) (down e * down g))))
 
 -- 1, the constant 1.0
 one : HasValue (Ieee.ofBits binary64 4607182418800017408) false 1 1

@@ -26,7 +26,7 @@ W-o = record21 0x954001500050028A8002A000800000000000000000
 abbrev pub short-at-once : Result
 short-at-once = fields Unknown 1 1 1 0 0 0 0 2
 
--- A search with so many nodes, under a rule, of a record; and its result. Limit, budget and interval are judge's.
+-- A search with so many nodes, under a rule, of a record; and its result. Limit, budget and interval are judge's, and off.
 abbrev RoomCase : Type 0
 RoomCase = record { pool : ℕ; rule : ℕ; bytes : List ℕ; result : Result }
 

@@ -8,7 +8,7 @@ use Rattle.searches.specs.Searches.{Limits}
 use Rattle.searches.specs.ThirdCondition.{ThirdCondition}
 use Rattle.ultimattt.specs.Exports.{SearchNumbers, fieldsOf}
 
--- Their fields are those of two results that stand in the third condition: S, T the numbers that each was given, words, words′ the lengths of the pools.
+-- Their fields are those of two results that stand in the third condition: S, T what each was given, words, words′ the lengths of the pools.
 pub record TwoAnswers (bytes : List ℕ) (rule : ℕ) (S T : Limits) (words words′ : ℕ) (a b : SearchNumbers) : Type 0 where
   pub first : Result
   pub second : Result

@@ -176,8 +176,7 @@ pub fn no_fields() -> ResultFields
     }
 }
 
-// The answer of search as C has it: code is 0 or the refusal's number; index is 0; the result's fields, all 0 with a refusal. The margin of a search is not read
-// if it is not staying.
+// The answer of search as C has it: code is 0 or the refusal's number; index is 0; the result's fields, all 0 with a refusal.
 #[repr(C)]
 pub struct SearchAnswer {
     pub code: u32,

@@ -1,3 +1,4 @@
+pub mod PackedWord
 pub mod Packed
 pub mod Words
 pub mod Trees

@@ -1,4 +1,4 @@
--- The steps of the plain machine as the pool holds its states, counts included. Rests on Steps and Store.
+-- The steps of the plain machine as the pool holds its states, counts included. Rests on Steps, Store and Current.
 use mathlib.Core.Path.{_≡_, refl, ap, sym, _∙_, subst}
 use mathlib.Core.List.{List, [], _∷_}
 use mathlib.Core.Bool.{Bool, true, false, cond}

@@ -1,12 +1,12 @@
 //! One search on either side.
 
 use crate::searches::{Search, INTERVAL, LIMIT, POOL_NODES, POOL_WORDS, RULE};
-use calls::Fields;
+use calls::{Fields, Stay};
 use uttt::{ffi, ours};
 
 /// The original, which sets up its slabs itself.
 pub fn original(search: &Search) -> Fields {
-    original::search(&search.record(), RULE, POOL_NODES as u64, LIMIT, search.budget, INTERVAL)
+    original::search(&search.record(), RULE, POOL_NODES as u64, LIMIT, search.budget, INTERVAL, Stay::Off)
 }
 
 /// The library with a pool that is lent to it.
@@ -23,6 +23,8 @@ pub fn ours(search: &Search, pool: &mut [u32]) -> Fields {
             LIMIT,
             search.budget,
             INTERVAL,
+            false,
+            0.0,
         )
     };
     assert_eq!(answer.code, 0, "{} was refused", search.name);

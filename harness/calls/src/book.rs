@@ -2,19 +2,20 @@
 //! its lines, at first without bytes and with count 0:
 //!
 //! ```text
-//! book new ENTRIES                                            ok
-//! book set BYTES COUNT                                        ok
-//! book dump                                                   COUNT BYTES
-//! book add WHO RECORD RULE POOL-NODES LIMIT BUDGET INTERVAL   True COUNT, False COUNT or Unknown COUNT
-//! book lookup WHO RECORD RULE                                 True, False or notheld
-//! book publish WHO RECORD RULE                                published or notheld
+//! book new ENTRIES                                                     ok
+//! book set BYTES COUNT                                                 ok
+//! book dump                                                            COUNT BYTES
+//! book add WHO RECORD RULE POOL-NODES LIMIT BUDGET INTERVAL [MARGIN]   True COUNT, False COUNT or Unknown COUNT
+//! book lookup WHO RECORD RULE                                          True, False or notheld
+//! book publish WHO RECORD RULE                                         published or notheld
 //! ```
 //!
-//! WHO is `arbiter` or `trainer`. A book's bytes are hexadecimal, `-` for none.
+//! WHO is `arbiter` or `trainer`. A book's bytes are hexadecimal, `-` for none. `stay` has the form of a margin.
 
 use crate::hex;
 use crate::line::{bytes, number, Answer, Verdict, LONGEST_OUTPUT};
 use crate::record::LENGTH;
+use crate::stay::{read_last, write_last, Stay};
 use std::fmt;
 
 /// Bytes of an entry: a record, and one byte of rule, verdict and four bits more.
@@ -23,7 +24,7 @@ pub const ENTRY: usize = LENGTH + 1;
 pub const MARK: u8 = 1;
 /// What comes after the name of the call.
 pub const TAKES: &str = "new ENTRIES, set BYTES COUNT, dump, \
-    add WHO RECORD RULE POOL-NODES LIMIT BUDGET INTERVAL, lookup WHO RECORD RULE or publish WHO RECORD RULE";
+    add WHO RECORD RULE POOL-NODES LIMIT BUDGET INTERVAL [MARGIN], lookup WHO RECORD RULE or publish WHO RECORD RULE";
 
 /// Who is calling.
 #[derive(Clone, Copy, Debug, PartialEq, Eq)]
@@ -66,7 +67,7 @@ pub enum BookCall {
     New { entries: usize },
     Set(Book),
     Dump,
-    Add { who: Who, record: Vec<u8>, rule: u64, pool: u64, limit: u64, budget: u64, interval: u64 },
+    Add { who: Who, record: Vec<u8>, rule: u64, pool: u64, limit: u64, budget: u64, interval: u64, stay: Stay },
     Lookup { who: Who, record: Vec<u8>, rule: u64 },
     Publish { who: Who, record: Vec<u8>, rule: u64 },
 }
@@ -183,8 +184,9 @@ impl fmt::Display for BookCall {
             BookCall::New { entries } => write!(f, " {}", entries),
             BookCall::Set(book) => write!(f, " {} {}", hex::show(&book.bytes), book.count),
             BookCall::Dump => Ok(()),
-            BookCall::Add { record, rule, pool, limit, budget, interval, .. } => {
-                write!(f, " {} {} {} {} {} {}", hex::show(record), rule, pool, limit, budget, interval)
+            BookCall::Add { record, rule, pool, limit, budget, interval, stay, .. } => {
+                write!(f, " {} {} {} {} {} {}", hex::show(record), rule, pool, limit, budget, interval)?;
+                write_last(f, *stay)
             }
             BookCall::Lookup { record, rule, .. } | BookCall::Publish { record, rule, .. } => {
                 write!(f, " {} {}", hex::show(record), rule)
@@ -204,11 +206,11 @@ pub fn parse(words: &[&str]) -> Result<BookCall, String> {
         },
         ["set", book, count] => Ok(BookCall::Set(Book { bytes: bytes("book", book)?, count: number("count", count)? })),
         ["dump"] => Ok(BookCall::Dump),
-        ["add", who, record, rule, pool, limit, budget, interval] => {
+        ["add", who, record, rule, pool, limit, budget, interval, rest @ ..] => {
             let (who, record, rule) = caller_and_pair(who, record, rule)?;
             let (pool, limit) = (number("pool", pool)?, number("limit", limit)?);
             let (budget, interval) = (number("budget", budget)?, number("interval", interval)?);
-            Ok(BookCall::Add { who, record, rule, pool, limit, budget, interval })
+            Ok(BookCall::Add { who, record, rule, pool, limit, budget, interval, stay: read_last(rest)? })
         }
         ["lookup", who, record, rule] => {
             let (who, record, rule) = caller_and_pair(who, record, rule)?;

@@ -1,21 +1,22 @@
 //! Up to eight games under one allowance (MANUAL, Games with one allowance) and their line:
 //!
 //! ```text
-//! eight RECORDS RULE POOL-NODES LIMIT ALLOWANCE INTERVAL S1,..,S8   nine fields a game, with ` | ` between games
+//! eight RECORDS RULE POOL-NODES LIMIT ALLOWANCE INTERVAL S1,..,S8 [MARGIN]   nine fields a game, with ` | ` between
 //! ```
 //!
 //! RECORDS is the hexadecimal of all records, one after the other, `-` for none. There are eight shares whatever the
-//! number of games, with commas and no spaces between.
+//! number of games, with commas and no spaces between. `stay` has the form of a margin.
 
 use crate::hex;
 use crate::line::{bytes, number, Fields};
 use crate::record::LENGTH;
+use crate::stay::{read_last, write_last, Stay};
 use std::fmt;
 
 /// The most games of a call; it has as many shares.
 pub const MOST_GAMES: usize = 8;
 /// What comes after the name of the call.
-pub const TAKES: &str = "RECORDS RULE POOL-NODES LIMIT ALLOWANCE INTERVAL S1,S2,S3,S4,S5,S6,S7,S8";
+pub const TAKES: &str = "RECORDS RULE POOL-NODES LIMIT ALLOWANCE INTERVAL S1,S2,S3,S4,S5,S6,S7,S8 [MARGIN]";
 
 #[derive(Clone, Debug, PartialEq, Eq)]
 pub struct Games {
@@ -27,6 +28,7 @@ pub struct Games {
     pub allowance: u64,
     pub interval: u64,
     pub shares: [u64; MOST_GAMES],
+    pub stay: Stay,
 }
 
 impl Games {
@@ -54,9 +56,10 @@ impl Games {
 
 impl fmt::Display for Games {
     fn fmt(&self, f: &mut fmt::Formatter) -> fmt::Result {
-        let Games { records, rule, pool, limit, allowance, interval, shares } = self;
+        let Games { records, rule, pool, limit, allowance, interval, shares, stay } = self;
         write!(f, "{} {} {} {} {} {} ", hex::show(records), rule, pool, limit, allowance, interval)?;
-        write!(f, "{}", shares.map(|share| share.to_string()).join(","))
+        write!(f, "{}", shares.map(|share| share.to_string()).join(","))?;
+        write_last(f, *stay)
     }
 }
 
@@ -68,7 +71,7 @@ pub(crate) fn show_results(f: &mut fmt::Formatter, results: &[Fields]) -> fmt::R
 
 /// Reads what comes after the name of the call, or says what is wrong with it.
 pub fn parse(words: &[&str]) -> Result<Games, String> {
-    let [records, rule, pool, limit, allowance, interval, shares] = words else {
+    let [records, rule, pool, limit, allowance, interval, shares, rest @ ..] = words else {
         return Err(format!("eight takes {}", TAKES));
     };
     Ok(Games {
@@ -79,6 +82,7 @@ pub fn parse(words: &[&str]) -> Result<Games, String> {
         allowance: number("allowance", allowance)?,
         interval: number("interval", interval)?,
         shares: read_shares(shares)?,
+        stay: read_last(rest)?,
     })
 }
 

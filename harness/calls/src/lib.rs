@@ -7,6 +7,7 @@ pub mod games;
 pub mod hex;
 pub mod line;
 pub mod record;
+pub mod stay;
 pub mod table;
 pub mod tool;
 
@@ -14,3 +15,4 @@ pub use book::{Book, BookCall, Who};
 pub use games::Games;
 pub use line::{Answer, Call, Fields, FullVerdict, Kind};
 pub use record::Position;
+pub use stay::Stay;

@@ -1,22 +1,24 @@
 //! A call and its answer, each as a line of text:
 //!
 //! ```text
-//! moves RECORD [OUTPUT-LENGTH]                          COUNT MOVES
-//! replay RECORD MOVES [OUTPUT-LENGTH]                   RECORD
-//! search RECORD RULE POOL-NODES LIMIT BUDGET INTERVAL   the nine fields
-//! full RECORD POOL-NODES LIMIT BUDGET INTERVAL          VERDICT | nine fields | nine fields
-//! referee RECORD RULE                                   True or False
-//! sheets FIRST SECOND [OUTPUT-LENGTH]                   COUNT RECORD
-//! book ...                                              as `book` has them
-//! eight ...                                             as `games` has it
-//!                                                       refused NUMBER INDEX
+//! moves RECORD [OUTPUT-LENGTH]                                   COUNT MOVES
+//! replay RECORD MOVES [OUTPUT-LENGTH]                            RECORD
+//! search RECORD RULE POOL-NODES LIMIT BUDGET INTERVAL [MARGIN]   the nine fields
+//! full RECORD POOL-NODES LIMIT BUDGET INTERVAL [MARGIN]          VERDICT | nine fields | nine fields
+//! referee RECORD RULE                                            True or False
+//! sheets FIRST SECOND [OUTPUT-LENGTH]                            COUNT RECORD
+//! book ...                                                       as `book` has them
+//! eight ...                                                      as `games` has it
+//!                                                                refused NUMBER INDEX
 //! ```
 //!
-//! Records, moves and sheets are hexadecimal, `-` for none. The output length is that of the lent buffer.
+//! Records, moves and sheets are hexadecimal, `-` for none. The output length is that of the lent buffer. `stay` has
+//! the form of a margin.
 
 use crate::book::{self, Book, BookCall};
 use crate::games::{self, Games};
 use crate::hex;
+use crate::stay::{read_last, write_last, Stay};
 use crate::table::{MOVES_ROOM, RECORD_ROOM};
 use std::fmt;
 
@@ -27,8 +29,8 @@ pub const LONGEST_OUTPUT: usize = 1_000_000;
 pub enum Call {
     Moves { record: Vec<u8>, output: usize },
     Replay { record: Vec<u8>, moves: Vec<u8>, output: usize },
-    Search { record: Vec<u8>, rule: u64, pool: u64, limit: u64, budget: u64, interval: u64 },
-    Full { record: Vec<u8>, pool: u64, limit: u64, budget: u64, interval: u64 },
+    Search { record: Vec<u8>, rule: u64, pool: u64, limit: u64, budget: u64, interval: u64, stay: Stay },
+    Full { record: Vec<u8>, pool: u64, limit: u64, budget: u64, interval: u64, stay: Stay },
     Referee { record: Vec<u8>, rule: u64 },
     Sheets { first: Vec<u8>, second: Vec<u8>, output: usize },
     Book(BookCall),
@@ -76,8 +78,8 @@ impl Kind {
         match self {
             Kind::Moves => "RECORD [OUTPUT-LENGTH]",
             Kind::Replay => "RECORD MOVES [OUTPUT-LENGTH]",
-            Kind::Search => "RECORD RULE POOL-NODES LIMIT BUDGET INTERVAL",
-            Kind::Full => "RECORD POOL-NODES LIMIT BUDGET INTERVAL",
+            Kind::Search => "RECORD RULE POOL-NODES LIMIT BUDGET INTERVAL [MARGIN]",
+            Kind::Full => "RECORD POOL-NODES LIMIT BUDGET INTERVAL [MARGIN]",
             Kind::Referee => "RECORD RULE",
             Kind::Sheets => "FIRST SECOND [OUTPUT-LENGTH]",
             Kind::Book => book::TAKES,
@@ -97,6 +99,24 @@ impl Call {
             Call::Sheets { .. } => Kind::Sheets,
             Call::Book(_) => Kind::Book,
             Call::Games(_) => Kind::Games,
+        }
+    }
+
+    /// The setting of a call that searches.
+    pub fn stay(&self) -> Option<Stay> {
+        match self {
+            Call::Search { stay, .. } | Call::Full { stay, .. } => Some(*stay),
+            Call::Book(BookCall::Add { stay, .. }) | Call::Games(Games { stay, .. }) => Some(*stay),
+            _ => None,
+        }
+    }
+
+    /// The same, to be changed.
+    pub fn stay_mut(&mut self) -> Option<&mut Stay> {
+        match self {
+            Call::Search { stay, .. } | Call::Full { stay, .. } => Some(stay),
+            Call::Book(BookCall::Add { stay, .. }) | Call::Games(Games { stay, .. }) => Some(stay),
+            _ => None,
         }
     }
 }
@@ -236,11 +256,13 @@ impl fmt::Display for Call {
                 write!(f, "replay {} {}", hex::show(record), hex::show(moves))?;
                 write_output(f, *output, RECORD_ROOM)
             }
-            Call::Search { record, rule, pool, limit, budget, interval } => {
-                write!(f, "search {} {} {} {} {} {}", hex::show(record), rule, pool, limit, budget, interval)
+            Call::Search { record, rule, pool, limit, budget, interval, stay } => {
+                write!(f, "search {} {} {} {} {} {}", hex::show(record), rule, pool, limit, budget, interval)?;
+                write_last(f, *stay)
             }
-            Call::Full { record, pool, limit, budget, interval } => {
-                write!(f, "full {} {} {} {} {}", hex::show(record), pool, limit, budget, interval)
+            Call::Full { record, pool, limit, budget, interval, stay } => {
+                write!(f, "full {} {} {} {} {}", hex::show(record), pool, limit, budget, interval)?;
+                write_last(f, *stay)
             }
             Call::Referee { record, rule } => write!(f, "referee {} {}", hex::show(record), rule),
             Call::Sheets { first, second, output } => {
@@ -274,21 +296,18 @@ pub fn parse(line: &str) -> Result<Call, String> {
             moves: bytes("moves", moves)?,
             output: output(rest, RECORD_ROOM)?,
         }),
-        ["search", record, rule, pool, limit, budget, interval] => Ok(Call::Search {
-            record: bytes("record", record)?,
-            rule: number("rule", rule)?,
-            pool: number("pool", pool)?,
-            limit: number("limit", limit)?,
-            budget: number("budget", budget)?,
-            interval: number("interval", interval)?,
-        }),
-        ["full", record, pool, limit, budget, interval] => Ok(Call::Full {
-            record: bytes("record", record)?,
-            pool: number("pool", pool)?,
-            limit: number("limit", limit)?,
-            budget: number("budget", budget)?,
-            interval: number("interval", interval)?,
-        }),
+        ["search", record, rule, pool, limit, budget, interval, rest @ ..] => {
+            let (record, rule) = (bytes("record", record)?, number("rule", rule)?);
+            let (pool, limit) = (number("pool", pool)?, number("limit", limit)?);
+            let (budget, interval) = (number("budget", budget)?, number("interval", interval)?);
+            Ok(Call::Search { record, rule, pool, limit, budget, interval, stay: read_last(rest)? })
+        }
+        ["full", record, pool, limit, budget, interval, rest @ ..] => {
+            let record = bytes("record", record)?;
+            let (pool, limit) = (number("pool", pool)?, number("limit", limit)?);
+            let (budget, interval) = (number("budget", budget)?, number("interval", interval)?);
+            Ok(Call::Full { record, pool, limit, budget, interval, stay: read_last(rest)? })
+        }
         ["referee", record, rule] => {
             Ok(Call::Referee { record: bytes("record", record)?, rule: number("rule", rule)? })
         }

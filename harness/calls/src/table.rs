@@ -1,4 +1,4 @@
-//! The table of refusals (MANUAL, Turned back), checks 1 to 10 and 16 to 20, as plain code of our own. The original has
+//! The table of refusals (MANUAL, Turned back), checks 1 to 10 and 16 to 21, as plain code of our own. The original has
 //! no such checks, so these are not its answers: they decide what is handed to it, and they are what a
 //! refusal of the proved library is compared with. Refusals 11 to 15 are the original's own errors.
 //!
@@ -7,6 +7,7 @@
 use crate::book::{Book, Who};
 use crate::games::{Games, MOST_GAMES};
 use crate::record::{Position, EMPTY, FREE_CHOICE, LENGTH, O, X};
+use crate::stay::Stay;
 
 const LINES: [[usize; 3]; 8] = [[0, 1, 2], [3, 4, 5], [6, 7, 8], [0, 3, 6], [1, 4, 7], [2, 5, 8], [0, 4, 8], [2, 4, 6]];
 
@@ -107,10 +108,11 @@ pub fn room_refusal(output: usize, room: usize) -> Option<u32> {
     first(&[(7, output < room)])
 }
 
-/// Checks 1 to 6 and 8 to 10 of search.
-pub fn search_refusal(record: &[u8], rule: u64, pool: u64, budget: u64, interval: u64) -> Option<u32> {
+/// Checks 1 to 6, 8 to 10 and 21 of search.
+pub fn search_refusal(record: &[u8], rule: u64, pool: u64, budget: u64, interval: u64, stay: Stay) -> Option<u32> {
     let settings = out_of_range(rule, interval, &[budget]);
-    record_refusal(record).or(first(&[(8, pool < 1), (9, pool > LARGEST_POOL), (10, settings)]))
+    let checks = [(8, pool < 1), (9, pool > LARGEST_POOL), (10, settings), (21, stay.is_refused())];
+    record_refusal(record).or(first(&checks))
 }
 
 /// Check 10 fails.
@@ -120,8 +122,8 @@ fn out_of_range(rule: u64, interval: u64, budgets: &[u64]) -> bool {
 }
 
 /// Search's checks without a rule.
-pub fn full_refusal(record: &[u8], pool: u64, budget: u64, interval: u64) -> Option<u32> {
-    search_refusal(record, 0, pool, budget, interval)
+pub fn full_refusal(record: &[u8], pool: u64, budget: u64, interval: u64, stay: Stay) -> Option<u32> {
+    search_refusal(record, 0, pool, budget, interval, stay)
 }
 
 /// Empty cells of boards in play.
@@ -147,18 +149,11 @@ pub fn publish_refusal(book: &Book, who: Who, record: &[u8], rule: u64) -> Optio
     caller_refusal(who).or(lookup_refusal(book, record, rule))
 }
 
-/// Check 19, then 1 to 6, 8 to 10, 17 and 18 of an add.
-pub fn add_refusal(
-    book: &Book,
-    who: Who,
-    record: &[u8],
-    rule: u64,
-    pool: u64,
-    budget: u64,
-    interval: u64,
-) -> Option<u32> {
+/// Check 19, then 1 to 6, 8 to 10, 21, 17 and 18 of an add; `limits` are pool, budget and interval.
+pub fn add_refusal(book: &Book, who: Who, record: &[u8], rule: u64, limits: [u64; 3], stay: Stay) -> Option<u32> {
     let full = book.count == book.entries() && book.held(Who::Arbiter, record, rule).is_none();
-    let settings = search_refusal(record, rule, pool, budget, interval);
+    let [pool, budget, interval] = limits;
+    let settings = search_refusal(record, rule, pool, budget, interval, stay);
     caller_refusal(who).or(settings).or(first(&[(17, book.is_broken()), (18, full)]))
 }
 
@@ -178,11 +173,13 @@ pub fn games_refusal(call: &Games) -> Option<(u32, u64)> {
     at_first(&[length, number]).or(records).or_else(|| at_first(&games_settings(call)))
 }
 
-/// Checks 8 of a part, 9 of the whole pool, 10, and 20 for the sum of the shares. Shares past the games are not read.
-fn games_settings(call: &Games) -> [(u32, bool); 4] {
-    let Games { rule, pool, allowance, interval, .. } = *call;
+/// Checks 8 of a part, 9 of the whole pool, 10, 21, and 20 for the sum of the shares. Shares past the games are not
+/// read.
+fn games_settings(call: &Games) -> [(u32, bool); 5] {
+    let Games { rule, pool, allowance, interval, stay, .. } = *call;
     let shares = call.shares_read();
     let settings = out_of_range(rule, interval, &[allowance]) || out_of_range(rule, interval, shares);
     let sum: u128 = shares.iter().map(|share| u128::from(*share)).sum();
-    [(8, call.part() < 1), (9, pool > LARGEST_POOL), (10, settings), (20, sum > u128::from(allowance))]
+    let margin = (21, stay.is_refused());
+    [(8, call.part() < 1), (9, pool > LARGEST_POOL), (10, settings), margin, (20, sum > u128::from(allowance))]
 }

@@ -2,7 +2,7 @@
 
 use calls::book::{entry, ENTRY};
 use calls::line::{self, Verdict};
-use calls::{table, Answer, Book, BookCall, Position, Who};
+use calls::{table, Answer, Book, BookCall, Position, Stay, Who};
 
 fn start() -> Vec<u8> {
     Position::start().write().to_vec()
@@ -86,8 +86,9 @@ fn a_broken_book_is_refused_after_the_record_and_the_rule() {
     assert_eq!(table::lookup_refusal(&book, &start()[1..], 3), Some(1));
     assert_eq!(table::lookup_refusal(&book, &start(), 3), Some(10));
     assert_eq!(table::lookup_refusal(&book, &start(), 2), Some(17));
-    let add =
-        |record: &[u8], rule, pool, interval| table::add_refusal(&book, Who::Arbiter, record, rule, pool, 0, interval);
+    let add = |record: &[u8], rule, pool, interval| {
+        table::add_refusal(&book, Who::Arbiter, record, rule, [pool, 0, interval], Stay::Off)
+    };
     assert_eq!(add(&start()[1..], 3, 0, 0), Some(1));
     assert_eq!(add(&start(), 3, 0, 0), Some(8));
     assert_eq!(add(&start(), 3, 1, 1), Some(10));
@@ -96,7 +97,7 @@ fn a_broken_book_is_refused_after_the_record_and_the_rule() {
 
 #[test]
 fn a_full_book_refuses_what_it_does_not_hold() {
-    let add = |book: &Book, rule| table::add_refusal(book, Who::Arbiter, &start(), rule, 1, 0, 1);
+    let add = |book: &Book, rule| table::add_refusal(book, Who::Arbiter, &start(), rule, [1, 0, 1], Stay::Off);
     let full = book(&[(1, 2, 0)], 1);
     assert_eq!([0, 1, 2].map(|rule| add(&full, rule)), [Some(18), None, Some(18)]);
     assert_eq!(add(&Book::default(), 1), Some(18));
@@ -108,9 +109,12 @@ fn a_full_book_refuses_what_it_does_not_hold() {
 fn a_trainer_only_looks_up() {
     let (broken, held) = (Book { bytes: vec![0; 21], count: 0 }, book(&[(1, 2, 1)], 1));
     let publish = |book: &Book, who, record: &[u8], rule| table::publish_refusal(book, who, record, rule);
+    let add = |book: &Book, record: &[u8], rule, limits| {
+        table::add_refusal(book, Who::Trainer, record, rule, limits, Stay::Off)
+    };
     for book in [&broken, &held] {
-        assert_eq!(table::add_refusal(book, Who::Trainer, &start()[1..], 3, 0, u64::MAX, 0), Some(19));
-        assert_eq!(table::add_refusal(book, Who::Trainer, &start(), 1, 1, 0, 1), Some(19));
+        assert_eq!(add(book, &start()[1..], 3, [0, u64::MAX, 0]), Some(19));
+        assert_eq!(add(book, &start(), 1, [1, 0, 1]), Some(19));
         assert_eq!(publish(book, Who::Trainer, &start()[1..], 3), Some(19));
         assert_eq!(publish(book, Who::Trainer, &start(), 1), Some(19));
         for (record, rule) in [(&start()[1..], 3), (&start(), 3), (&start(), 1)] {

@@ -1,7 +1,7 @@
 //! Lines, records and the table, on small inputs.
 
 use calls::record::{Position, FREE_CHOICE, X};
-use calls::{hex, line, table, Answer, Call, Kind};
+use calls::{hex, line, table, Answer, Call, Kind, Stay};
 
 #[test]
 fn lines_are_read_and_printed() {
@@ -116,17 +116,19 @@ fn the_first_check_answers() {
 #[test]
 fn settings_are_checked_in_order() {
     let record = Position::start().write();
-    let refusal = |rule, pool, budget, interval| table::search_refusal(&record, rule, pool, budget, interval);
+    let refusal =
+        |rule, pool, budget, interval| table::search_refusal(&record, rule, pool, budget, interval, Stay::Off);
+    let full_refusal = |pool, budget, interval| table::full_refusal(&record, pool, budget, interval, Stay::Off);
     assert_eq!(refusal(3, 0, 0, 0), Some(8));
     assert_eq!(refusal(3, 16_777_217, 0, 0), Some(9));
     assert_eq!(refusal(3, 16_777_216, 0, 1), Some(10));
     assert_eq!(refusal(2, 1, 1_000_000_000_001, 1), Some(10));
     assert_eq!(refusal(2, 1, 1_000_000_000_000, 1_000_001), Some(10));
     assert_eq!(refusal(2, 1, 1_000_000_000_000, 1_000_000), None);
-    assert_eq!(table::full_refusal(&record, 0, 0, 0), Some(8));
-    assert_eq!(table::full_refusal(&record, 16_777_217, 0, 0), Some(9));
-    assert_eq!(table::full_refusal(&record, 16_777_216, 0, 0), Some(10));
-    assert_eq!(table::full_refusal(&record, 1, 1_000_000_000_000, 1_000_000), None);
+    assert_eq!(full_refusal(0, 0, 0), Some(8));
+    assert_eq!(full_refusal(16_777_217, 0, 0), Some(9));
+    assert_eq!(full_refusal(16_777_216, 0, 0), Some(10));
+    assert_eq!(full_refusal(1, 1_000_000_000_000, 1_000_000), None);
     assert_eq!(table::referee_refusal(&record, 3), Some(10));
     assert_eq!(table::referee_refusal(&record, 2), Some(16));
     assert_eq!(table::output_refusal(&record, 20, table::RECORD_ROOM), Some(7));

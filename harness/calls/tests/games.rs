@@ -3,7 +3,7 @@
 use calls::line::{self, Fields, Verdict};
 use calls::record::X;
 use calls::table::{games_refusal, LARGEST_BUDGET, LARGEST_INTERVAL, LARGEST_POOL};
-use calls::{Answer, Call, Games, Position};
+use calls::{Answer, Call, Games, Position, Stay};
 
 fn start() -> Vec<u8> {
     Position::start().write().to_vec()
@@ -23,7 +23,8 @@ fn miscoded() -> Vec<u8> {
 
 /// A call of these records that no check refuses, if none of them is refused and there are one to eight.
 fn call(records: &[Vec<u8>]) -> Games {
-    Games { records: records.concat(), rule: 0, pool: 80, limit: 0, allowance: 36, interval: 1, shares: [3; 8] }
+    let (records, stay) = (records.concat(), Stay::Off);
+    Games { records, rule: 0, pool: 80, limit: 0, allowance: 36, interval: 1, shares: [3; 8], stay }
 }
 
 fn refusal(records: &[Vec<u8>]) -> Option<(u32, u64)> {
@@ -40,7 +41,8 @@ fn lines_are_read_and_printed() {
         assert_eq!(line::parse(text).expect(text).to_string(), text);
     }
     let shares = [1, 2, 3, 4, 5, 6, 7, u64::MAX];
-    let games = Games { records: vec![0x78, 0], rule: 1, pool: 2, limit: 3, allowance: 4, interval: 5, shares };
+    let (records, stay) = (vec![0x78, 0], Stay::Off);
+    let games = Games { records, rule: 1, pool: 2, limit: 3, allowance: 4, interval: 5, shares, stay };
     assert_eq!(line::parse("eight 7800 1 2 3 4 5 1,2,3,4,5,6,7,18446744073709551615"), Ok(Call::Games(games)));
 }
 
@@ -81,7 +83,10 @@ fn other_words_are_told() {
         assert!(line::parse(text).is_err(), "{:?}", text);
     }
     let message = line::parse("eight -").expect_err("more words come");
-    assert_eq!(message, "eight takes RECORDS RULE POOL-NODES LIMIT ALLOWANCE INTERVAL S1,S2,S3,S4,S5,S6,S7,S8");
+    assert_eq!(
+        message,
+        "eight takes RECORDS RULE POOL-NODES LIMIT ALLOWANCE INTERVAL S1,S2,S3,S4,S5,S6,S7,S8 [MARGIN]"
+    );
 }
 
 #[test]

@@ -3,7 +3,10 @@
 use calls::book::ENTRY;
 use calls::record::{Position, EMPTY, FREE_CHOICE, LENGTH};
 use calls::table::{MOVES_ROOM, RECORD_ROOM};
-use calls::{Book, BookCall, Call, Games};
+use calls::{Book, BookCall, Call, Games, Stay};
+
+/// Both zeros and margins that are refused, the plainest first.
+const PLAIN: [f64; 7] = [0.0, -0.0, 1.0 / 512.0, 2.0, -1.0, f64::INFINITY, f64::NAN];
 
 /// The smallest list found from `list` on for which `differs` holds, as it does for `list`.
 pub fn smallest(mut list: Vec<Call>, differs: impl Fn(&[Call]) -> bool) -> Vec<Call> {
@@ -39,15 +42,17 @@ fn smaller(call: &Call) -> Vec<Call> {
             out.extend(usual(*output, RECORD_ROOM).map(|o| with(record.clone(), moves.clone(), o)));
             out
         }
-        Call::Search { record, rule, pool, limit, budget, interval } => {
+        Call::Search { record, rule, pool, limit, budget, interval, stay } => {
             let rule = *rule;
-            searches(record, [*pool, *limit, *budget, *interval], |record, [pool, limit, budget, interval]| {
-                Call::Search { record, rule, pool, limit, budget, interval }
+            searches(record, [*pool, *limit, *budget, *interval], *stay, |record, numbers, stay| {
+                let [pool, limit, budget, interval] = numbers;
+                Call::Search { record, rule, pool, limit, budget, interval, stay }
             })
         }
-        Call::Full { record, pool, limit, budget, interval } => {
-            searches(record, [*pool, *limit, *budget, *interval], |record, [pool, limit, budget, interval]| {
-                Call::Full { record, pool, limit, budget, interval }
+        Call::Full { record, pool, limit, budget, interval, stay } => {
+            searches(record, [*pool, *limit, *budget, *interval], *stay, |record, numbers, stay| {
+                let [pool, limit, budget, interval] = numbers;
+                Call::Full { record, pool, limit, budget, interval, stay }
             })
         }
         Call::Referee { record, rule } => {
@@ -61,9 +66,10 @@ fn smaller(call: &Call) -> Vec<Call> {
     }
 }
 
-/// Without a game and its share, then with a lower number, a smaller record or without the last byte.
+/// Without a game and its share, then with a plainer margin, a lower number, a smaller record or without the last byte.
 fn smaller_games(games: &Games) -> Vec<Games> {
     let mut out: Vec<Games> = (0..games.count()).rev().map(|at| without_game(games, at)).collect();
+    out.extend(plainer(games.stay).into_iter().map(|stay| Games { stay, ..games.clone() }));
     let mut of_numbers = games.clone();
     for (at, number) in of_numbers.numbers().into_iter().enumerate() {
         out.extend(lower(*number).map(|less| {
@@ -107,10 +113,11 @@ fn smaller_lines(line: &BookCall) -> Vec<Call> {
             let with = |record| Call::Book(BookCall::Publish { who: *who, record, rule: *rule });
             records(record).map(with).collect()
         }
-        BookCall::Add { who, record, rule, pool, limit, budget, interval } => {
+        BookCall::Add { who, record, rule, pool, limit, budget, interval, stay } => {
             let (who, rule) = (*who, *rule);
-            searches(record, [*pool, *limit, *budget, *interval], |record, [pool, limit, budget, interval]| {
-                Call::Book(BookCall::Add { who, record, rule, pool, limit, budget, interval })
+            searches(record, [*pool, *limit, *budget, *interval], *stay, |record, numbers, stay| {
+                let [pool, limit, budget, interval] = numbers;
+                Call::Book(BookCall::Add { who, record, rule, pool, limit, budget, interval, stay })
             })
         }
     }
@@ -138,9 +145,14 @@ fn sheets(first: &[u8], second: &[u8], output: usize) -> Vec<Call> {
     out
 }
 
-/// Calls made from a smaller record, or from settings (pool, limit, budget, interval) of which one is
-/// smaller.
-fn searches(record: &[u8], settings: [u64; 4], call: impl Fn(Vec<u8>, [u64; 4]) -> Call) -> Vec<Call> {
+/// Calls made from a plainer margin, from numbers (pool, limit, budget, interval) of which one is smaller, or from a
+/// smaller record.
+fn searches(
+    record: &[u8],
+    settings: [u64; 4],
+    stay: Stay,
+    call: impl Fn(Vec<u8>, [u64; 4], Stay) -> Call,
+) -> Vec<Call> {
     // Budget, pool, interval, limit.
     let places = [2, 0, 3, 1].into_iter();
     let lowered = places.flat_map(|at| {
@@ -150,9 +162,20 @@ fn searches(record: &[u8], settings: [u64; 4], call: impl Fn(Vec<u8>, [u64; 4]) 
             fewer
         })
     });
-    let mut out: Vec<Call> = lowered.map(|fewer| call(record.to_vec(), fewer)).collect();
-    out.extend(records(record).map(|fewer| call(fewer, settings)));
+    let mut out: Vec<Call> = plainer(stay).into_iter().map(|stay| call(record.to_vec(), settings, stay)).collect();
+    out.extend(lowered.map(|fewer| call(record.to_vec(), fewer, stay)));
+    out.extend(records(record).map(|fewer| call(fewer, settings, stay)));
     out
+}
+
+/// Off, then margins of fewer 256ths; for 0 and for one that is refused those of the list that stand before it.
+fn plainer(stay: Stay) -> Vec<Stay> {
+    let margins: Vec<Stay> = match stay.in_256ths() {
+        _ if stay == Stay::Off => return vec![],
+        Some(number @ 1..) => lower(number).map(Stay::of_256ths).collect(),
+        _ => PLAIN.map(Stay::margin).into_iter().take_while(|margin| *margin != stay).collect(),
+    };
+    [vec![Stay::Off], margins].concat()
 }
 
 /// The moves without one, or cut in half.

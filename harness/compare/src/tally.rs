@@ -1,6 +1,6 @@
 //! A tally of answers by what they are, so that the run shows what it covered.
 
-use calls::{Answer, Call, Fields};
+use calls::{Answer, Call, Fields, Stay};
 use oracle::Ending;
 use std::collections::BTreeMap;
 
@@ -24,14 +24,20 @@ pub fn kind(call: &Call, answer: &Answer, count: u64) -> String {
         }
         Answer::Ok | Answer::Book(_) => "done".to_string(),
     };
-    format!("{:<20}  {}", name(call), outcome)
+    format!("{:<33}  {}", name(call), outcome)
 }
 
-/// The word that the call's line starts with, and those up to who calls of a book's line.
+/// The word that the call's line starts with, and those up to who calls of a book's line; then whether it searches with
+/// a margin.
 fn name(call: &Call) -> String {
-    match call {
+    let name = match call {
         Call::Book(line) => format!("{} {}", call.kind().name(), line.name()),
         _ => call.kind().name().to_string(),
+    };
+    match call.stay() {
+        None | Some(Stay::Off) => name,
+        Some(stay) if stay.is_refused() => format!("{}, no margin", name),
+        Some(_) => format!("{}, margin", name),
     }
 }
 

@@ -123,18 +123,22 @@ pub struct Add {
     pub words: *mut u32,
     pub k: usize,
     pub limits: [u64; 3],
+    pub staying: bool,
+    pub margin: f64,
 }
 
 impl Add {
     pub unsafe fn add(self) -> ffi::AddAnswer {
         let Asked { trainer, book, length, count, record, n, rule } = self.asked;
-        let [limit, budget, interval] = self.limits;
-        ffi::uttt_book_add(trainer, book, length, count, record, n, self.words, self.k, rule, limit, budget, interval)
+        let Add { words, k, limits: [limit, budget, interval], staying, margin, .. } = self;
+        ffi::uttt_book_add(
+            trainer, book, length, count, record, n, words, k, rule, limit, budget, interval, staying, margin,
+        )
     }
 
     pub unsafe fn search(self) -> ffi::SearchAnswer {
         let (Asked { record, n, rule, .. }, [limit, budget, interval]) = (self.asked, self.limits);
-        ffi::uttt_search(record, n, self.words, self.k, rule, limit, budget, interval)
+        ffi::uttt_search(record, n, self.words, self.k, rule, limit, budget, interval, self.staying, self.margin)
     }
 
     /// Writes an entry at the count.
@@ -174,7 +178,8 @@ macro_rules! lookup {
             n: usize,
             rule: u64,
         ) -> ffi::LookupAnswer {
-            let $lent = Asked { trainer, book: book.cast_mut(), length, count, record, n, rule };
+            let book = book.cast_mut();
+            let $lent = $crate::book_calls::Asked { trainer, book, length, count, record, n, rule };
             $done
         }
     };
@@ -192,7 +197,7 @@ macro_rules! publish {
             n: usize,
             rule: u64,
         ) -> ffi::PublishAnswer {
-            let $lent = Asked { trainer, book, length, count, record, n, rule };
+            let $lent = $crate::book_calls::Asked { trainer, book, length, count, record, n, rule };
             $done
         }
     };
@@ -215,9 +220,12 @@ macro_rules! add {
             limit: u64,
             budget: u64,
             interval: u64,
+            staying: bool,
+            margin: f64,
         ) -> ffi::AddAnswer {
-            let asked = Asked { trainer, book, length, count, record, n, rule };
-            let $lent = Add { asked, words, k, limits: [limit, budget, interval] };
+            let asked = $crate::book_calls::Asked { trainer, book, length, count, record, n, rule };
+            let limits = [limit, budget, interval];
+            let $lent = $crate::book_calls::Add { asked, words, k, limits, staying, margin };
             $done
         }
     };

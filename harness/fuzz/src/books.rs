@@ -4,6 +4,7 @@
 use crate::checks::must;
 use crate::filling::Filling;
 use crate::guarded::Edge;
+use crate::inputs::any_margin;
 use crate::run::{Answered, Lender, NODE_BYTES, WORD_BYTES};
 use crate::watch;
 use calls::line::Verdict;
@@ -29,8 +30,8 @@ pub fn due(call: &BookCall, book: &Book) -> Option<u32> {
     match call {
         BookCall::Lookup { record, rule, .. } => table::lookup_refusal(book, record, *rule),
         BookCall::Publish { who, record, rule } => table::publish_refusal(book, *who, record, *rule),
-        BookCall::Add { who, record, rule, pool, budget, interval, .. } => {
-            table::add_refusal(book, *who, record, *rule, *pool, *budget, *interval)
+        BookCall::Add { who, record, rule, pool, budget, interval, stay, .. } => {
+            table::add_refusal(book, *who, record, *rule, [*pool, *budget, *interval], *stay)
         }
         BookCall::New { .. } | BookCall::Set(_) | BookCall::Dump => None,
     }
@@ -108,18 +109,19 @@ impl Lender {
         edge: Edge,
         random: &mut Random,
     ) -> Result<Answered, String> {
-        let BookCall::Add { who, rule, pool, limit, budget, interval, .. } = *call else {
+        let BookCall::Add { who, rule, pool, limit, budget, interval, stay, .. } = *call else {
             unreachable!("no other adds")
         };
         let capacity = NODE_BYTES * pool as usize;
         self.pool.lend(capacity + WORD_BYTES * random.index(5), edge, Filling::any(random));
         let (trainer, export) = (who.is_trainer(), self.exports.add);
+        let (on, margin) = stay.passed(any_margin(random));
         let (at, length) = (self.output.pointer(), self.output.bytes().len());
         let (from, size) = (self.first.pointer(), self.first.bytes().len());
         let (words, k) = (self.pool.pointer() as *mut u32, self.pool.bytes().len() / WORD_BYTES);
         // SAFETY: pointers and lengths belong together, and the buffers are apart.
         let a = watch::during(line, self.seconds, || unsafe {
-            export(trainer, at, length, book.count, from, size, words, k, rule, limit, budget, interval)
+            export(trainer, at, length, book.count, from, size, words, k, rule, limit, budget, interval, on, margin)
         });
         self.pool.unchanged(if searches(call, book) { capacity } else { 0 })?;
         Ok(added(a, book.count, self.output.bytes()))

@@ -45,16 +45,18 @@ pub fn written(call: &Call, a: &Answered) -> usize {
     }
 }
 
-/// The refusal of checks 1 to 10 and 16 to 20, if one is due, and its index.
+/// The refusal of checks 1 to 10 and 16 to 21, if one is due, and its index.
 fn due(call: &Call, book: &Book) -> Option<(u32, u64)> {
     let number = match call {
         Call::Moves { record, output } => table::output_refusal(record, *output, MOVES_ROOM),
         Call::Replay { record, output, .. } => table::output_refusal(record, *output, RECORD_ROOM),
         Call::Referee { record, rule } => table::referee_refusal(record, *rule),
-        Call::Search { record, rule, pool, budget, interval, .. } => {
-            table::search_refusal(record, *rule, *pool, *budget, *interval)
+        Call::Search { record, rule, pool, budget, interval, stay, .. } => {
+            table::search_refusal(record, *rule, *pool, *budget, *interval, *stay)
         }
-        Call::Full { record, pool, budget, interval, .. } => table::full_refusal(record, *pool, *budget, *interval),
+        Call::Full { record, pool, budget, interval, stay, .. } => {
+            table::full_refusal(record, *pool, *budget, *interval, *stay)
+        }
         Call::Sheets { output, .. } => table::room_refusal(*output, RECORD_ROOM),
         Call::Book(call) => books::due(call, book),
         Call::Games(games) => return table::games_refusal(games),

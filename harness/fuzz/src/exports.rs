@@ -6,8 +6,9 @@ use uttt::ffi;
 type Replay = unsafe extern "C" fn(*const u8, usize, *const u8, usize, *mut u8, usize) -> ffi::ReplayAnswer;
 type Moves = unsafe extern "C" fn(*const u8, usize, *mut u8, usize) -> ffi::MovesAnswer;
 type Referee = unsafe extern "C" fn(*const u8, usize, u64) -> ffi::RefereeAnswer;
-type Search = unsafe extern "C" fn(*const u8, usize, *mut u32, usize, u64, u64, u64, u64) -> ffi::SearchAnswer;
-type Full = unsafe extern "C" fn(*const u8, usize, *mut u32, usize, u64, u64, u64) -> ffi::FullAnswer;
+type Search =
+    unsafe extern "C" fn(*const u8, usize, *mut u32, usize, u64, u64, u64, u64, bool, f64) -> ffi::SearchAnswer;
+type Full = unsafe extern "C" fn(*const u8, usize, *mut u32, usize, u64, u64, u64, bool, f64) -> ffi::FullAnswer;
 type Sheets = unsafe extern "C" fn(*const u8, usize, *const u8, usize, *mut u8, usize, *mut u32) -> u64;
 type Games = unsafe extern "C" fn(
     *const u8,
@@ -19,6 +20,8 @@ type Games = unsafe extern "C" fn(
     u64,
     u64,
     u64,
+    bool,
+    f64,
 ) -> ffi::GamesAnswer;
 type Lookup = unsafe extern "C" fn(bool, *const u8, usize, u64, *const u8, usize, u64) -> ffi::LookupAnswer;
 type Publish = unsafe extern "C" fn(bool, *mut u8, usize, u64, *const u8, usize, u64) -> ffi::PublishAnswer;
@@ -35,6 +38,8 @@ type Add = unsafe extern "C" fn(
     u64,
     u64,
     u64,
+    bool,
+    f64,
 ) -> ffi::AddAnswer;
 
 #[derive(Clone, Copy)]

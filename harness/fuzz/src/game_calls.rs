@@ -1,6 +1,7 @@
 //! What a call of games is lent, so that a wrong library can do it otherwise (`wrong_games`).
 
 use crate::passes::Passes;
+use crate::search_calls::given;
 use calls::games::MOST_GAMES;
 use calls::record::LENGTH;
 use calls::table::LARGEST_BUDGET;
@@ -21,12 +22,14 @@ pub struct Asked {
     pub limit: u64,
     pub allowance: u64,
     pub interval: u64,
+    pub staying: bool,
+    pub margin: f64,
 }
 
 impl Asked {
     pub unsafe fn judge(self) -> ffi::GamesAnswer {
-        let Asked { records, length, words, k, shares, rule, limit, allowance, interval } = self;
-        ffi::uttt_judge_games(records, length, words, k, shares, rule, limit, allowance, interval)
+        let Asked { records, length, words, k, shares, rule, limit, allowance, interval, staying, margin } = self;
+        ffi::uttt_judge_games(records, length, words, k, shares, rule, limit, allowance, interval, staying, margin)
     }
 
     /// The same with other shares.
@@ -39,7 +42,8 @@ impl Asked {
         let bytes = self.length.min(LENGTH * MOST_GAMES * MOST_GAMES);
         let records = if bytes == 0 { vec![] } else { from_raw_parts(self.records, bytes).to_vec() };
         let Asked { rule, limit, allowance, interval, .. } = *self;
-        Games { records, rule, pool: (self.k / NODE_WORDS) as u64, limit, allowance, interval, shares: *self.shares }
+        let (pool, stay) = ((self.k / NODE_WORDS) as u64, given(self.staying, self.margin));
+        Games { records, rule, pool, limit, allowance, interval, shares: *self.shares, stay }
     }
 
     pub fn count(&self) -> usize {
@@ -70,8 +74,9 @@ impl Asked {
     pub unsafe fn lone_in(&self, game: usize, nodes: usize, limit: u64, budget: u64) -> ffi::ResultFields {
         let words = self.words.add(NODE_WORDS * self.part() * game);
         let record = self.records.add(LENGTH * game);
-        let budget = budget.min(LARGEST_BUDGET);
-        ffi::uttt_search(record, LENGTH, words, NODE_WORDS * nodes, self.rule, limit, budget, self.interval).result
+        let (k, budget) = (NODE_WORDS * nodes, budget.min(LARGEST_BUDGET));
+        let Asked { rule, interval, staying, margin, .. } = *self;
+        ffi::uttt_search(record, LENGTH, words, k, rule, limit, budget, interval, staying, margin).result
     }
 
     /// The answer with the passes done so, where none is refused.
@@ -114,8 +119,22 @@ macro_rules! games {
             limit: u64,
             allowance: u64,
             interval: u64,
+            staying: bool,
+            margin: f64,
         ) -> ffi::GamesAnswer {
-            let $lent = Asked { records, length, words, k, shares, rule, limit, allowance, interval };
+            let $lent = $crate::game_calls::Asked {
+                records,
+                length,
+                words,
+                k,
+                shares,
+                rule,
+                limit,
+                allowance,
+                interval,
+                staying,
+                margin,
+            };
             $done
         }
     };

@@ -43,10 +43,11 @@ impl Lender {
     fn alone(&mut self, games: &Games, line: &str) -> Vec<u64> {
         let (from, export) = (self.first.pointer(), self.exports.search);
         let (words, length) = (self.pool.pointer() as *mut u32, self.pool.bytes().len() / WORD_BYTES);
-        let Games { rule, limit, allowance, interval, .. } = *games;
+        let Games { rule, limit, allowance, interval, stay, .. } = *games;
+        let (on, margin) = stay.passed(f64::NAN);
         // SAFETY: pointers and lengths belong together, and the buffers are apart.
         let lone = |game: usize, budget| unsafe {
-            export(from.add(LENGTH * game), LENGTH, words, length, rule, limit, budget, interval).result
+            export(from.add(LENGTH * game), LENGTH, words, length, rule, limit, budget, interval, on, margin).result
         };
         let results = watch::during(line, self.seconds, || AS_DUE.results(games.shares_read(), allowance, lone, lone));
         results.into_iter().flat_map(fields).collect()

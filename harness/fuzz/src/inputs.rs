@@ -1,7 +1,7 @@
 //! Calls to try: the generator's, the same with bytes and settings damaged, and bytes at random.
 
 use calls::table::{LARGEST_BUDGET, LARGEST_POOL};
-use calls::{BookCall, Call, Games, Kind, Who};
+use calls::{BookCall, Call, Games, Kind, Stay, Who};
 use oracle::generate::{self, Random};
 
 /// The longest record, list of moves, output and book.
@@ -33,6 +33,10 @@ pub fn list(random: &mut Random) -> Vec<Call> {
 /// One or two parts of the call changed.
 fn damage(random: &mut Random, call: &mut Call) {
     for _ in 0..1 + random.below(2) {
+        if let Some(stay) = call.stay_mut().filter(|_| random.once_in(4)) {
+            *stay = Stay::Margin(generate::no_margin(random));
+            continue;
+        }
         match (random.below(3), &mut *call) {
             (0, Call::Replay { moves, .. }) => damage_bytes(random, moves),
             (0, Call::Search { rule, pool, limit, budget, interval, .. }) => {
@@ -70,6 +74,9 @@ fn damage(random: &mut Random, call: &mut Call) {
 fn scramble(random: &mut Random, call: &mut Call) {
     if let Some(first) = first_of(call) {
         *first = bytes(random);
+    }
+    if let Some(stay) = call.stay_mut() {
+        *stay = if random.once_in(2) { Stay::Off } else { Stay::margin(any_margin(random)) };
     }
     match call {
         Call::Moves { output, .. } => *output = length(random),
@@ -147,6 +154,14 @@ fn damage_bytes(random: &mut Random, bytes: &mut Vec<u8>) {
 
 fn bytes(random: &mut Random) -> Vec<u8> {
     (0..length(random)).map(|_| random.byte()).collect()
+}
+
+/// A margin that is taken, or none that is; as one that is not read, it may be either.
+pub fn any_margin(random: &mut Random) -> f64 {
+    match generate::stay(random) {
+        Stay::Margin(bits) => f64::from_bits(bits),
+        Stay::Off => f64::from_bits(generate::no_margin(random)),
+    }
 }
 
 /// A length: a record's most often, now and then none, or the longest.

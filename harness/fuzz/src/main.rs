@@ -20,12 +20,14 @@ mod guarded;
 mod inputs;
 mod passes;
 mod run;
+mod search_calls;
 mod watch;
 mod wide;
 mod wrong;
 mod wrong_books;
 mod wrong_games;
 mod wrong_marks;
+mod wrong_stay;
 
 use calls::{Book, Call};
 use exports::{Exports, LIBRARY};
@@ -75,7 +77,8 @@ fn usage() -> ExitCode {
 
 /// What is wrong with each, and its exports.
 fn wrong_libraries() -> impl Iterator<Item = (&'static str, Exports)> {
-    wrong::ALL.into_iter().chain(wrong_books::ALL).chain(wrong_marks::ALL).chain(wrong_games::ALL)
+    let of_books = wrong_books::ALL.into_iter().chain(wrong_marks::ALL);
+    wrong::ALL.into_iter().chain(of_books).chain(wrong_games::ALL).chain(wrong_stay::ALL)
 }
 
 /// Runs every wrong library in a process of its own; each must end with a violation.

@@ -4,7 +4,7 @@ use crate::books;
 use crate::exports::Exports;
 use crate::filling::Filling;
 use crate::guarded::{Edge, Region};
-use crate::inputs::{LONGEST, MOST_NODES};
+use crate::inputs::{any_margin, LONGEST, MOST_NODES};
 use crate::watch;
 use calls::games::MOST_GAMES;
 use calls::record::LENGTH;
@@ -125,8 +125,8 @@ impl Lender {
         Answered { code: a.code, index: a.index, numbers: vec![a.value.into()], output: vec![] }
     }
 
-    /// Search, full verdict or games, twice: the second time with what the first one left in the pool. Of its nodes
-    /// so many can be written.
+    /// Search, full verdict or games, twice: the second time with what the first one left in the pool, and where staying
+    /// is off with another margin, which is not read. Of its nodes so many can be written.
     pub fn search(
         &mut self,
         call: &Call,
@@ -137,10 +137,10 @@ impl Lender {
         random: &mut Random,
     ) -> Result<Answered, String> {
         self.pool.lend(NODE_BYTES * nodes as usize + WORD_BYTES * random.index(5), edge, Filling::any(random));
-        let first = self.pool_call(call, line);
+        let first = self.pool_call(call, any_margin(random), line);
         let written = if first.code == 0 { NODE_BYTES * open as usize } else { 0 };
         self.pool.unchanged(written)?;
-        let again = self.pool_call(call, line);
+        let again = self.pool_call(call, any_margin(random), line);
         self.pool.unchanged(written)?;
         if first != again {
             return Err(format!("with the first one's words in the pool {:?}, not {:?}", again, first));
@@ -148,22 +148,23 @@ impl Lender {
         Ok(first)
     }
 
-    fn pool_call(&mut self, call: &Call, line: &str) -> Answered {
+    fn pool_call(&mut self, call: &Call, unread: f64, line: &str) -> Answered {
         let (from, size) = (self.first.pointer(), self.first.bytes().len());
         let (words, length) = (self.pool.pointer() as *mut u32, self.pool.bytes().len() / WORD_BYTES);
         let Exports { search, full, games, .. } = self.exports;
         let shares = self.shares.pointer() as *const [u64; MOST_GAMES];
+        let (on, margin) = call.stay().unwrap_or_default().passed(unread);
         // SAFETY: pointers and lengths belong together, and the buffers are apart.
         watch::during(line, self.seconds, || match *call {
             Call::Search { rule, limit, budget, interval, .. } => {
-                searched(unsafe { search(from, size, words, length, rule, limit, budget, interval) })
+                searched(unsafe { search(from, size, words, length, rule, limit, budget, interval, on, margin) })
             }
             Call::Full { limit, budget, interval, .. } => {
-                judged(unsafe { full(from, size, words, length, limit, budget, interval) })
+                judged(unsafe { full(from, size, words, length, limit, budget, interval, on, margin) })
             }
-            Call::Games(Games { rule, limit, allowance, interval, .. }) => {
-                judged_together(unsafe { games(from, size, words, length, shares, rule, limit, allowance, interval) })
-            }
+            Call::Games(Games { rule, limit, allowance, interval, .. }) => judged_together(unsafe {
+                games(from, size, words, length, shares, rule, limit, allowance, interval, on, margin)
+            }),
             _ => unreachable!("no other call has a pool"),
         })
     }

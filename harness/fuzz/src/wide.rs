@@ -14,9 +14,11 @@ use calls::table::MOVES_ROOM;
 
 const OVER: usize = 1 << 32;
 const NODE_WORDS: usize = 5;
-/// The settings of the searches: rule 0, no limit, one expansion, interval 1.
+/// The settings of the searches: rule 0, no limit, one expansion, interval 1, staying off.
 const RULE: u64 = 0;
 const LIMIT: u64 = u64::MAX;
+const OFF: bool = false;
+const UNREAD: f64 = f64::NAN;
 /// A share of one expansion for the first game.
 const SHARES: [u64; MOST_GAMES] = [1, 0, 0, 0, 0, 0, 0, 0];
 /// Who calls.
@@ -76,16 +78,18 @@ fn long_records(exports: &Exports, long: &mut Region) -> Result<Vec<Tried>, Stri
         let moves = (exports.moves)(at, length, to, room);
         let replay = (exports.replay)(at, length, at, 0, to, room);
         let referee = (exports.referee)(at, length, RULE);
+        let search = (exports.search)(at, length, words, size, RULE, LIMIT, 1, 1, OFF, UNREAD);
+        let full = (exports.full)(at, length, words, size, LIMIT, 1, 1, OFF, UNREAD);
         let lookup = (exports.lookup)(TRAINER, entries, ENTRY, 0, at, length, RULE);
         let publish = (exports.publish)(ARBITER, entries, ENTRY, 0, at, length, RULE);
-        let add = (exports.add)(ARBITER, entries, ENTRY, 0, at, length, words, size, RULE, LIMIT, 1, 1);
-        let games = (exports.games)(at, length, words, size, &SHARES, RULE, LIMIT, 1, 1);
+        let add = (exports.add)(ARBITER, entries, ENTRY, 0, at, length, words, size, RULE, LIMIT, 1, 1, OFF, UNREAD);
+        let games = (exports.games)(at, length, words, size, &SHARES, RULE, LIMIT, 1, 1, OFF, UNREAD);
         vec![
             ("moves, record", (1, 0), bare(moves.code, moves.index)),
             ("replay, record", (1, 0), bare(replay.code, replay.index)),
             ("referee, record", (1, 0), bare(referee.code, referee.index)),
-            ("search, record", (1, 0), searched((exports.search)(at, length, words, size, RULE, LIMIT, 1, 1))),
-            ("full, record", (1, 0), judged((exports.full)(at, length, words, size, LIMIT, 1, 1))),
+            ("search, record", (1, 0), searched(search)),
+            ("full, record", (1, 0), judged(full)),
             ("lookup, record", (1, 0), bare(lookup.code, lookup.index)),
             ("publish, record", (1, 0), bare(publish.code, publish.index)),
             ("add, record", (1, 0), bare(add.code, add.index)),
@@ -162,7 +166,7 @@ fn long_books(exports: &Exports, long: &mut Region) -> Result<Vec<Tried>, String
         let lookup = (exports.lookup)(ARBITER, at, length, 1, from, size, 0);
         let publish = (exports.publish)(ARBITER, at, length, 1, from, size, 0);
         let published = (exports.lookup)(TRAINER, at, length, 1, from, size, 0);
-        let add = (exports.add)(ARBITER, at, length, 1, from, size, words, k, 1, LIMIT, 0, 1);
+        let add = (exports.add)(ARBITER, at, length, 1, from, size, words, k, 1, LIMIT, 0, 1, OFF, UNREAD);
         (lookup, publish, published, add)
     };
     long.unchanged(2 * ENTRY)?;
@@ -189,9 +193,11 @@ fn large_counts(exports: &Exports) -> Result<Vec<Tried>, String> {
     let (lookup, publish, add, games) = unsafe {
         let lookup = (exports.lookup)(ARBITER, at, ENTRY, count, from, size, RULE);
         let publish = (exports.publish)(ARBITER, at, ENTRY, count, from, size, RULE);
-        let add = (exports.add)(ARBITER, at, ENTRY, count, from, size, words, NODE_WORDS, RULE, LIMIT, 0, 1);
+        let add =
+            (exports.add)(ARBITER, at, ENTRY, count, from, size, words, NODE_WORDS, RULE, LIMIT, 0, 1, OFF, UNREAD);
         let shares = SHARES.map(|share| OVER as u64 * share);
-        (lookup, publish, add, (exports.games)(from, size, words, NODE_WORDS, &shares, RULE, LIMIT, 0, 1))
+        let games = (exports.games)(from, size, words, NODE_WORDS, &shares, RULE, LIMIT, 0, 1, OFF, UNREAD);
+        (lookup, publish, add, games)
     };
     if book != held || pool != [0; NODE_WORDS] {
         return Err("a large count: something was written".to_string());
@@ -213,7 +219,8 @@ fn many_games(exports: &Exports, long: &mut Region) -> Result<Vec<Tried>, String
     for length in [OVER.next_multiple_of(LENGTH), LENGTH * (OVER + 1)] {
         long.lend_long(length, &Position::start().write());
         // SAFETY: pointers and lengths belong together, and the buffers are apart.
-        let games = unsafe { (exports.games)(long.pointer(), length, words, size, &SHARES, RULE, LIMIT, 1, 1) };
+        let games =
+            unsafe { (exports.games)(long.pointer(), length, words, size, &SHARES, RULE, LIMIT, 1, 1, OFF, UNREAD) };
         long.unchanged(LENGTH)?;
         tried.push(("games, number", (20, 0), judged_together(games)));
     }
@@ -234,11 +241,12 @@ fn long_pools(exports: &Exports, pool: &mut Region) -> Result<Vec<Tried>, String
         let words = pool.pointer() as *mut u32;
         // SAFETY: pointers and lengths belong together, and the buffers are apart.
         let (search, full, add, games) = unsafe {
-            let search = (exports.search)(from, size, words, length, RULE, LIMIT, 1, 1);
-            let full = (exports.full)(from, size, words, length, LIMIT, 1, 1);
+            let search = (exports.search)(from, size, words, length, RULE, LIMIT, 1, 1, OFF, UNREAD);
+            let full = (exports.full)(from, size, words, length, LIMIT, 1, 1, OFF, UNREAD);
             let book = std::ptr::null_mut();
-            let add = (exports.add)(ARBITER, book, 0, 0, from, size, words, length, RULE, LIMIT, 1, 1);
-            (search, full, add, (exports.games)(from, size, words, length, &SHARES, RULE, LIMIT, 1, 1))
+            let add = (exports.add)(ARBITER, book, 0, 0, from, size, words, length, RULE, LIMIT, 1, 1, OFF, UNREAD);
+            let games = (exports.games)(from, size, words, length, &SHARES, RULE, LIMIT, 1, 1, OFF, UNREAD);
+            (search, full, add, games)
         };
         pool.unchanged(0)?;
         tried.extend([

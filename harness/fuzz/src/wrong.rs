@@ -125,11 +125,13 @@ macro_rules! search {
             limit: u64,
             budget: u64,
             interval: u64,
+            staying: bool,
+            margin: f64,
         ) -> ffi::SearchAnswer {
             #[allow(unused_variables, clippy::let_unit_value)]
             let $seen = $before;
             #[allow(unused_mut)]
-            let mut $a = ffi::uttt_search(r, n, $words, $k, rule, limit, budget, interval);
+            let mut $a = ffi::uttt_search(r, n, $words, $k, rule, limit, budget, interval, staying, margin);
             $after;
             $a
         }
@@ -139,6 +141,7 @@ macro_rules! search {
 /// A full verdict with something done after it.
 macro_rules! full {
     ($name:ident, |$a:ident, $words:ident| $after:expr) => {
+        #[allow(clippy::too_many_arguments)]
         unsafe extern "C" fn $name(
             r: *const u8,
             n: usize,
@@ -147,9 +150,11 @@ macro_rules! full {
             limit: u64,
             budget: u64,
             interval: u64,
+            staying: bool,
+            margin: f64,
         ) -> ffi::FullAnswer {
             #[allow(unused_mut)]
-            let mut $a = ffi::uttt_full_verdict(r, n, $words, k, limit, budget, interval);
+            let mut $a = ffi::uttt_full_verdict(r, n, $words, k, limit, budget, interval, staying, margin);
             $after;
             $a
         }

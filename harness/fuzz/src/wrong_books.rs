@@ -1,7 +1,7 @@
 //! Libraries with one thing wrong in lookup or add, as `wrong` has them: the proved exports over another book or
 //! another count, or with something done before or after them.
 
-use crate::book_calls::{add, false_for_three, lookup, Add, Asked};
+use crate::book_calls::{add, false_for_three, lookup, Asked};
 use crate::exports::{Exports, LIBRARY};
 use calls::book::{entry, ENTRY};
 use calls::record::LENGTH;

@@ -141,7 +141,7 @@ games!(part_by_9, |lent| {
         _ => lent.judge(),
     }
 });
-games_then!(settings_first, |lent, a| if a.code == 8 && lent.rule > LARGEST_RULE {
+games_then!(settings_first, |lent, a| if a.code == 8 && !is_in_range(lent) {
     a.code = 10;
 });
 games_refused!(range_of_all, |lent| (10, (*lent.shares).into_iter().any(|share| share > LARGEST_BUDGET)));

@@ -4,6 +4,7 @@
 use crate::book_calls::{add, false_for_three, lookup, publish, Add, Asked};
 use crate::exports::{Exports, LIBRARY};
 use crate::run::{NODE_BYTES, WORD_BYTES};
+use crate::search_calls::given;
 use calls::book::{ENTRY, MARK};
 use calls::record::LENGTH;
 use calls::table::{lookup_refusal, record_refusal, search_refusal};
@@ -96,7 +97,8 @@ impl Asked {
 impl Add {
     unsafe fn refusal_of_settings(&self) -> Option<u32> {
         let (nodes, [_, budget, interval]) = ((self.k / (NODE_BYTES / WORD_BYTES)) as u64, self.limits);
-        search_refusal(&self.asked.record(), self.asked.rule, nodes, budget, interval)
+        let stay = given(self.staying, self.margin);
+        search_refusal(&self.asked.record(), self.asked.rule, nodes, budget, interval, stay)
     }
 }
 

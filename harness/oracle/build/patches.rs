@@ -20,6 +20,11 @@ const PROGRESS: &str = "progress.rs";
 
 pub const FILES: [&str; 5] = [GAME, PROVE, PN, POOL, PROGRESS];
 
+/// Names of patches that a build for timing can leave out.
+pub const STEP_3: &str = "step 3";
+pub const TAKEN_AGAIN: &str = "child taken again";
+pub const REMEMBERED: &str = "move remembered";
+
 pub const PATCHES: &[Patch] = &[
     // What can't be built here: modules that are not at hand or lean on such, and crates of a registry.
     patch("no display", GAME, "mod display;", ""),
@@ -54,7 +59,8 @@ pub const PATCHES: &[Patch] = &[
     pub rule: u64,
     pub pool: u64,
     pub budget: u64,
-    pub interval: usize,",
+    pub interval: usize,
+    pub stay: Option<u64>,",
     ),
     patch(
         "settings' defaults",
@@ -64,7 +70,24 @@ pub const PATCHES: &[Patch] = &[
             rule: 0,
             pool: u64::MAX,
             budget: u64::MAX,
-            interval: 10000,",
+            interval: 10000,
+            stay: None,",
+    ),
+    // Staying on a line: src/prove/pn/stay.rs has both functions. With the setting off the first gives none.
+    patch(
+        TAKEN_AGAIN,
+        PN,
+        "let mut child = NodeID::none();
+            let mut c = node.first_child;",
+        "let mut child = stay::taken_again(self, node);
+            let mut c = if child.exists() { NodeID::none() } else { node.first_child };",
+    ),
+    patch(
+        REMEMBERED,
+        PN,
+        "self.cursor.descend(nid, child, &self.nodes.get(child));",
+        "stay::remember(self, nid, child);
+            self.cursor.descend(nid, child, &self.nodes.get(child));",
     ),
     // Steps 1 and 3 (MANUAL, Search). At step 3 the original makes the leaf's children. If the pool has not so
     // many nodes the search ends before the climb, and only the two counts have to be set back.
@@ -79,7 +102,7 @@ pub const PATCHES: &[Patch] = &[
             let next = ",
     ),
     patch(
-        "step 3",
+        STEP_3,
         PN,
         "self.expand(next);",
         "let allocated = self.nodes.stats.allocated.get();

@@ -1,8 +1,9 @@
 //! The calls (MANUAL, Calls), answered by the original: replay by `make_move`, legal moves by
 //! `all_moves` (never on a finished position, where there are none: MANUAL, The game), search by
-//! `Prover::prove`. Refusals 1 to 10 and 16 to 20 come from `calls::table`. The original has no full verdict,
-//! no referee and no agreed opening: the first is two of its searches and a name of our own (`full`), the
-//! others are our own exhaustive value (`value`) and our own reading of two lists (`opening`) over its moves.
+//! `Prover::prove`, into whose descent staying on a line, which is ours, is patched (`prove::pn::stay`). Refusals 1 to
+//! 10 and 16 to 21 come from `calls::table`. The original has no full verdict, no referee and no agreed opening: the
+//! first is two of its searches and a name of our own (`full`), the others are our own exhaustive value (`value`) and
+//! our own reading of two lists (`opening`) over its moves.
 //! Nor has it a book: lookup, add and publish are written a second time here, plainly and apart from the proved
 //! code (`book_call`), over the book of `calls::book` and the original's searches (`search`). So are games that
 //! are judged together (`games`).
@@ -16,7 +17,7 @@ use crate::prove::Evaluation;
 use calls::line::Verdict;
 use calls::record::LENGTH;
 use calls::table::{self, MOVES_ROOM, RECORD_ROOM};
-use calls::{Answer, Book, BookCall, Call, Fields, FullVerdict, Who};
+use calls::{Answer, Book, BookCall, Call, Fields, FullVerdict, Stay, Who};
 
 /// Answers any call; `book` is what the line before left, and is changed by a book's lines alone.
 pub fn answer(call: &Call, book: &mut Book) -> Answer {
@@ -30,14 +31,14 @@ pub fn answer(call: &Call, book: &mut Book) -> Answer {
                 Err((number, index)) => Answer::Refused { number, index },
             })
         }
-        Call::Search { record, rule, pool, limit, budget, interval } => {
-            refused_or(table::search_refusal(record, *rule, *pool, *budget, *interval), || {
-                Answer::Search(search(accepted(record), *rule, *pool, *limit, *budget, *interval))
+        Call::Search { record, rule, pool, limit, budget, interval, stay } => {
+            refused_or(table::search_refusal(record, *rule, *pool, *budget, *interval, *stay), || {
+                Answer::Search(search(accepted(record), *rule, *pool, *limit, *budget, *interval, *stay))
             })
         }
-        Call::Full { record, pool, limit, budget, interval } => {
-            refused_or(table::full_refusal(record, *pool, *budget, *interval), || {
-                let under = |rule| search(accepted(record), rule, *pool, *limit, *budget, *interval);
+        Call::Full { record, pool, limit, budget, interval, stay } => {
+            refused_or(table::full_refusal(record, *pool, *budget, *interval, *stay), || {
+                let under = |rule| search(accepted(record), rule, *pool, *limit, *budget, *interval, *stay);
                 let (first, second) = (under(1), under(2));
                 Answer::Full(full(first.verdict, second.verdict), first, second)
             })
@@ -65,10 +66,10 @@ fn book_call(call: &BookCall, book: &mut Book) -> Answer {
                 Answer::Published(book.publish(record, *rule))
             })
         }
-        BookCall::Add { who, record, rule, pool, limit, budget, interval } => {
-            refused_or(table::add_refusal(book, *who, record, *rule, *pool, *budget, *interval), || {
+        BookCall::Add { who, record, rule, pool, limit, budget, interval, stay } => {
+            refused_or(table::add_refusal(book, *who, record, *rule, [*pool, *budget, *interval], *stay), || {
                 let verdict = book.held(Who::Arbiter, record, *rule).unwrap_or_else(|| {
-                    let found = search(accepted(record), *rule, *pool, *limit, *budget, *interval).verdict;
+                    let found = search(accepted(record), *rule, *pool, *limit, *budget, *interval, *stay).verdict;
                     book.store(record, *rule, found);
                     found
                 });
@@ -164,8 +165,17 @@ pub fn legal_moves(record: &[u8; LENGTH]) -> Vec<u8> {
     moves
 }
 
-pub fn search(record: &[u8; LENGTH], rule: u64, pool: u64, limit: u64, budget: u64, interval: u64) -> Fields {
-    fields(&result(record, rule, pool, limit, budget, interval))
+/// The setting is off, or a margin that is taken.
+pub fn search(
+    record: &[u8; LENGTH],
+    rule: u64,
+    pool: u64,
+    limit: u64,
+    budget: u64,
+    interval: u64,
+    stay: Stay,
+) -> Fields {
+    fields(&result(record, rule, pool, limit, budget, interval, stay))
 }
 
 /// The same, and the tree where the search ended.
@@ -176,18 +186,28 @@ pub fn search_and_tree(
     limit: u64,
     budget: u64,
     interval: u64,
+    stay: Stay,
 ) -> (Fields, Tree) {
-    let result = result(record, rule, pool, limit, budget, interval);
+    let result = result(record, rule, pool, limit, budget, interval, stay);
     (fields(&result), Tree::of(&result.prover))
 }
 
-fn result(record: &[u8; LENGTH], rule: u64, pool: u64, limit: u64, budget: u64, interval: u64) -> ProofResult {
+fn result(
+    record: &[u8; LENGTH],
+    rule: u64,
+    pool: u64,
+    limit: u64,
+    budget: u64,
+    interval: u64,
+    stay: Stay,
+) -> ProofResult {
     let config = Config {
         max_memory: (limit as usize).checked_mul(sizeof_node()),
         rule,
         pool,
         budget,
         interval: interval as usize,
+        stay: stay.in_256ths(),
         ..Default::default()
     };
     Prover::prove(&config, &load::game(record))

@@ -32,5 +32,5 @@ fn judge(call: &Games) -> Vec<Fields> {
 /// The search of one game with its part of the pool and a budget of its own.
 pub fn lone(call: &Games, game: usize, budget: u64) -> Fields {
     let record = call.records[LENGTH * game..LENGTH * (game + 1)].try_into().expect("a record's bytes");
-    search(record, call.rule, call.part(), call.limit, budget, call.interval)
+    search(record, call.rule, call.part(), call.limit, budget, call.interval, call.stay)
 }

@@ -19,7 +19,8 @@ pub mod prove {
     }
     pub mod pn {
         include!(concat!(env!("OUT_DIR"), "/pn.rs"));
-        // Ours, placed here to read the original's nodes.
+        // Ours, placed here to use the original's nodes.
+        mod stay;
         pub mod tree;
     }
 }

@@ -4,7 +4,7 @@ mod steps;
 
 use calls::book::{ENTRY, MARK};
 use calls::line::Verdict;
-use calls::{table, Answer, Book, BookCall, Call, Kind, Who};
+use calls::{table, Answer, Book, BookCall, Call, Kind, Stay, Who};
 use oracle::generate::book;
 use std::collections::{BTreeMap, BTreeSet};
 use steps::{line, lists, steps, Step};
@@ -51,7 +51,7 @@ fn outcomes(count: usize) -> BTreeMap<String, usize> {
 fn every_answer_is_reached() {
     let seen = outcomes(4_000);
     let of_record = ["1", "2", "3", "4", "5", "6"];
-    let added = ["8", "9", "10", "17", "18", "True 1", "True 0", "False 1", "False 0", "Unknown 0"];
+    let added = ["8", "9", "10", "21", "17", "18", "True 1", "True 0", "False 1", "False 0", "Unknown 0"];
     let found = ["10", "17", "True", "False", "notheld"];
     let due: [(&str, &[&[&str]]); 6] = [
         ("add arbiter", &[&of_record, &added]),
@@ -89,7 +89,7 @@ fn what_is_stored_is_found() {
         }
         for (record, rule, verdict) in stored {
             let whole = record.as_slice().try_into().expect("an accepted record");
-            assert_eq!(oracle::search(whole, rule, 1 << 20, u64::MAX, 1_000_000, 10_000).verdict, verdict);
+            assert_eq!(oracle::search(whole, rule, 1 << 20, u64::MAX, 1_000_000, 10_000, Stay::Off).verdict, verdict);
             found += 1;
         }
     }
@@ -102,8 +102,9 @@ fn only_a_stored_verdict_or_a_mark_changes_the_book() {
     for Step { line, before, answer, after } in steps(1_000) {
         match &line {
             BookCall::New { .. } | BookCall::Set(_) => (),
-            BookCall::Add { who, record, rule, pool, budget, interval, .. } => {
-                let refused = table::add_refusal(&before, *who, record, *rule, *pool, *budget, *interval).is_some();
+            BookCall::Add { who, record, rule, pool, budget, interval, stay, .. } => {
+                let limits = [*pool, *budget, *interval];
+                let refused = table::add_refusal(&before, *who, record, *rule, limits, *stay).is_some();
                 let unknown = matches!(answer, Answer::Added { verdict: Verdict::Unknown, .. });
                 let kept = refused || unknown || before.held(Who::Arbiter, record, *rule).is_some();
                 assert_eq!(after == before, kept, "{}", line);

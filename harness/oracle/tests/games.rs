@@ -3,7 +3,7 @@
 
 use calls::record::LENGTH;
 use calls::table::{games_refusal, record_refusal, LARGEST_BUDGET};
-use calls::{hex, Answer, Book, Call, Fields, Games, Kind};
+use calls::{hex, Answer, Book, Call, Fields, Games, Kind, Stay};
 use oracle::games::lone;
 use oracle::generate::{call, Random};
 use std::collections::{BTreeMap, BTreeSet};
@@ -23,7 +23,7 @@ const DONE: &str = "02B400AC0054001500054000A8002A000A80054000";
 fn games(records: &[&str], shares: &[u64], allowance: u64) -> Games {
     let records = records.iter().flat_map(|record| hex::read(record).expect("hexadecimal")).collect();
     let shares = std::array::from_fn(|game| shares.get(game).copied().unwrap_or(0));
-    Games { records, rule: 0, pool: 3_276, limit: u64::MAX, allowance, interval: 10_000, shares }
+    Games { records, rule: 0, pool: 3_276, limit: u64::MAX, allowance, interval: 10_000, shares, stay: Stay::Off }
 }
 
 fn answer(games: &Games) -> Answer {

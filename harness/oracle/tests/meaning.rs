@@ -2,11 +2,12 @@
 //! ended: every set of open leaves is tried, the smaller ones first, until all leaves of one, taken as True (or as
 //! False) and the rest left open, make the root that. Each time the whole tree is evaluated with three values. Of the
 //! nodes' numbers only the 0 of a solved node is used, for its verdict. Trees with many open leaves are passed over.
+//! Searches are tried with staying on a line off, and with margins.
 
 use calls::line::Verdict;
 use calls::record::LENGTH;
 use calls::table::search_refusal;
-use calls::{Call, Fields, Position};
+use calls::{Call, Fields, Position, Stay};
 use oracle::generate::{ending, late, Random};
 use oracle::{legal_moves, search_and_tree, Tree};
 use std::collections::{BTreeMap, BTreeSet};
@@ -29,7 +30,7 @@ fn value(tree: &Tree, set: Set, taken: bool, next: &mut u32) -> Option<bool> {
             *next += 1;
             (set >> leaf & 1 == 1).then_some(taken)
         }
-        Tree::Expanded { own, children } => {
+        Tree::Expanded { own, children, .. } => {
             let (mut one, mut all) = (false, true);
             for child in children {
                 let value = value(child, set, taken, next);
@@ -80,7 +81,9 @@ fn leaves(tree: &Tree) -> u32 {
 /// Whether the sides take turns all over the tree, beginning with the one that is named.
 fn takes_turns(tree: &Tree, first: bool) -> bool {
     match tree {
-        Tree::Expanded { own, children } => *own == first && children.iter().all(|child| takes_turns(child, !first)),
+        Tree::Expanded { own, children, .. } => {
+            *own == first && children.iter().all(|child| takes_turns(child, !first))
+        }
         _ => true,
     }
 }
@@ -90,24 +93,28 @@ struct Ended {
     call: Call,
     record: [u8; LENGTH],
     rule: u64,
+    stay: Stay,
     fields: Fields,
     tree: Tree,
+    /// A search with the setting off would end with another.
+    parts_from_off: bool,
 }
 
 /// None if the call is another one, refused, or answered with True or False.
 fn ended(call: Call) -> Option<Ended> {
-    let Call::Search { record, rule, pool, limit, budget, interval } = &call else { return None };
-    if search_refusal(record, *rule, *pool, *budget, *interval).is_some() {
+    let Call::Search { record, rule, pool, limit, budget, interval, stay } = &call else { return None };
+    if search_refusal(record, *rule, *pool, *budget, *interval, *stay).is_some() {
         return None;
     }
     let record = record.as_slice().try_into().expect("it is accepted");
-    let (fields, tree) = search_and_tree(&record, *rule, *pool, *limit, *budget, *interval);
-    let rule = *rule;
-    (fields.verdict == Verdict::Unknown).then_some(Ended { call, record, rule, fields, tree })
+    let under = |stay| search_and_tree(&record, *rule, *pool, *limit, *budget, *interval, stay);
+    let (fields, tree) = under(*stay);
+    let (rule, stay, parts_from_off) = (*rule, *stay, tree != under(Stay::Off).1);
+    (fields.verdict == Verdict::Unknown).then_some(Ended { call, record, rule, stay, fields, tree, parts_from_off })
 }
 
 /// Searches of one position, an ending or far on in play and often with few moves: of each rule some that the budget,
-/// the pool or the limit stops soon.
+/// the pool or the limit stops soon. Each is there with the setting off and with a margin.
 fn generated(random: &mut Random) -> Vec<Call> {
     let most = random.pick(&[3, 5, 81]);
     let record = loop {
@@ -116,25 +123,30 @@ fn generated(random: &mut Random) -> Vec<Call> {
             break record.to_vec();
         }
     };
-    let mut search = |number: u64| {
+    let margin = Stay::of_256ths(random.aside().pick(&[0, 1, 64, 128, 256]));
+    let mut searches = |number: u64| {
         let (pool, limit, budget, interval) = match number % 3 {
             0 => (AMPLE, u64::MAX, random.below(14), 10_000),
             1 => (1 + random.below(24), u64::MAX, 1_000, 10_000),
             _ => (AMPLE, random.below(20), 1_000, 1 + random.below(4)),
         };
-        Call::Search { record: record.clone(), rule: number / 3 % 3, pool, limit, budget, interval }
+        let (record, rule) = (|| record.clone(), number / 3 % 3);
+        let with = |stay| Call::Search { record: record(), rule, pool, limit, budget, interval, stay };
+        [Stay::Off, margin].map(with)
     };
-    (0..9).map(&mut search).collect()
+    (0..9).flat_map(&mut searches).collect()
 }
 
-/// The searches of cases.txt and generated ones that ended as Unknown. A record, its rule and the number of expansions
-/// decide the tree; each comes once for each cause.
+/// The searches of cases.txt and generated ones that ended as Unknown. A record, its rule, the setting and the number of
+/// expansions decide the tree; each comes once for each cause.
 fn trees() -> impl Iterator<Item = Ended> {
     let mut random = Random::new(1);
     let generated = (0..1_000).flat_map(move |_| generated(&mut random));
     let mut seen = BTreeSet::new();
     let all = oracle::cases::calls().chain(generated).filter_map(ended);
-    all.filter(move |ended| seen.insert((ended.record, ended.rule, ended.fields.expanded, ended.fields.cause)))
+    all.filter(move |Ended { record, rule, stay, fields, .. }| {
+        seen.insert((*record, *rule, stay.in_256ths(), fields.expanded, fields.cause))
+    })
 }
 
 /// The leaves of a set, each as a set of its own.
@@ -197,6 +209,10 @@ impl Ended {
             ("disproof is not 1", disproof != 1),
             ("neither is 1", proof != 1 && disproof != 1),
             ("both are over 2", proof > 2 && disproof > 2),
+            ("margin 0", self.stay.in_256ths() == Some(0)),
+            ("margin 1", self.stay.in_256ths() == Some(256)),
+            ("another margin", self.stay.in_256ths().is_some_and(|number| number % 256 != 0)),
+            ("the tree would be another one with the setting off", self.parts_from_off),
         ]
     }
 }
@@ -206,9 +222,9 @@ impl Ended {
 #[test]
 fn the_empty_game_after_two_expansions() {
     for rule in 0..3 {
-        let (fields, tree) = search_and_tree(&Position::start().write(), rule, 90, u64::MAX, 2, 10_000);
+        let (fields, tree) = search_and_tree(&Position::start().write(), rule, 90, u64::MAX, 2, 10_000, Stay::Off);
         assert_eq!(fields.to_string(), "Unknown 1 81 90 0 0 0 2 1");
-        let Tree::Expanded { own: true, children } = &tree else { panic!("the root is expanded") };
+        let Tree::Expanded { own: true, children, .. } = &tree else { panic!("the root is expanded") };
         let expanded = children.iter().position(|child| *child != Tree::Open).expect("one child is expanded");
         assert_eq!((children.len(), leaves(&children[expanded]), leaves(&tree)), (81, 8, 88));
         let all: Set = (1 << 88) - 1;
@@ -235,8 +251,8 @@ fn the_empty_game_after_two_expansions() {
 #[test]
 fn sets_of_small_trees() {
     use Tree::{Open, Solved};
-    let own = |children: &[Tree]| Tree::Expanded { own: true, children: children.to_vec() };
-    let other = |children: &[Tree]| Tree::Expanded { own: false, children: children.to_vec() };
+    let own = |children: &[Tree]| Tree::Expanded { own: true, last: None, children: children.to_vec() };
+    let other = |children: &[Tree]| Tree::Expanded { own: false, last: None, children: children.to_vec() };
     let both = |tree: &Tree| (smallest(tree, true), smallest(tree, false));
     assert_eq!(both(&Open), (vec![0b1], vec![0b1]));
     assert_eq!(both(&own(&[Open, Open])), (vec![0b01, 0b10], vec![0b11]));

@@ -3,7 +3,7 @@
 use calls::games::MOST_GAMES;
 use calls::record::{Position, LENGTH};
 use calls::table::LARGEST_POOL;
-use calls::Games;
+use calls::{Games, Stay};
 use measure::positions::{moves, M1, M2, M4};
 use oracle::generate::{reached, Random};
 use oracle::load;
@@ -93,6 +93,7 @@ impl Kind {
             allowance: self.allowance,
             interval: INTERVAL,
             shares: [self.share; MOST_GAMES],
+            stay: Stay::Off,
         }
     }
 }

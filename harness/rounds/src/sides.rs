@@ -15,11 +15,13 @@ pub type Budgets = [u64; MOST_GAMES];
 
 /// All eight by one call, which is lent a whole pool.
 pub fn together(games: &Games, pool: &mut [u32]) -> Results {
-    let Games { records, rule, limit, allowance, interval, shares, .. } = games;
+    let Games { records, rule, limit, allowance, interval, shares, stay, .. } = games;
     let (from, bytes, to, length) = (records.as_ptr(), records.len(), pool.as_mut_ptr(), pool.len());
+    let (staying, margin) = stay.passed(0.0);
     // SAFETY: pointers and lengths belong together, and the buffers are apart.
-    let answer =
-        unsafe { ffi::uttt_judge_games(from, bytes, to, length, shares, *rule, *limit, *allowance, *interval) };
+    let answer = unsafe {
+        ffi::uttt_judge_games(from, bytes, to, length, shares, *rule, *limit, *allowance, *interval, staying, margin)
+    };
     assert_eq!((answer.code, answer.index, answer.count), (0, 0, MOST_GAMES as u64), "the games were refused");
     answer.results
 }
@@ -32,10 +34,11 @@ pub fn alone(games: &Games, budgets: &Budgets, pool: &mut [u32]) -> Results {
 fn lone(games: &Games, game: usize, budget: u64, pool: &mut [u32]) -> ResultFields {
     let record = &games.records[LENGTH * game..LENGTH * (game + 1)];
     let part = &mut pool[PART_WORDS * game..PART_WORDS * (game + 1)];
-    let Games { rule, limit, interval, .. } = *games;
+    let Games { rule, limit, interval, stay, .. } = *games;
     let (from, bytes, to, length) = (record.as_ptr(), record.len(), part.as_mut_ptr(), part.len());
+    let (staying, margin) = stay.passed(0.0);
     // SAFETY: pointers and lengths belong together, and the buffers are apart.
-    let answer = unsafe { ffi::uttt_search(from, bytes, to, length, rule, limit, budget, interval) };
+    let answer = unsafe { ffi::uttt_search(from, bytes, to, length, rule, limit, budget, interval, staying, margin) };
     assert_eq!(answer.code, 0, "a game was refused");
     answer.result
 }

@@ -3,18 +3,18 @@
 //! after a publish of a held pair, else every byte as it was.
 
 use crate::lent::Lent;
-use crate::ours::{same, verdict};
+use crate::ours::{same, unread, verdict};
 use crate::{ffi, pool};
 use calls::line::Verdict;
-use calls::{Answer, Book, BookCall, Who};
+use calls::{Answer, Book, BookCall, Stay, Who};
 
 /// Answers a line. The book is then as the call left it; as it was, if something is wrong.
 pub fn answer(call: &BookCall, book: &mut Book, pattern: u8) -> Result<Answer, String> {
     match call {
         BookCall::Lookup { who, record, rule } => lookup(book, *who, record, *rule, pattern),
         BookCall::Publish { who, record, rule } => publish(book, *who, record, *rule, pattern),
-        BookCall::Add { who, record, rule, pool, limit, budget, interval } => {
-            add(book, *who, record, *rule, [*pool, *limit, *budget, *interval], pattern)
+        BookCall::Add { who, record, rule, pool, limit, budget, interval, stay } => {
+            add(book, *who, record, *rule, [*pool, *limit, *budget, *interval], *stay, pattern)
         }
         BookCall::New { .. } | BookCall::Set(_) | BookCall::Dump => Ok(call.by_the_tool(book).expect("it is no call")),
     }
@@ -57,15 +57,25 @@ fn publish(book: &mut Book, who: Who, record: &[u8], rule: u64, pattern: u8) -> 
 
 /// `settings` are pool, limit, budget and interval. The pool's words are open to an add that searches: one that
 /// stores or says Unknown.
-fn add(book: &mut Book, who: Who, record: &[u8], rule: u64, settings: [u64; 4], pattern: u8) -> Result<Answer, String> {
+fn add(
+    book: &mut Book,
+    who: Who,
+    record: &[u8],
+    rule: u64,
+    settings: [u64; 4],
+    stay: Stay,
+    pattern: u8,
+) -> Result<Answer, String> {
     let mut lent = Lent::holding(&book.bytes, pattern);
     let record_before = record.to_vec();
-    let [nodes, limit, budget, interval] = settings;
+    let ([nodes, limit, budget, interval], (staying, margin)) = (settings, stay.passed(unread(pattern)));
     let (trainer, at, length, count) = (who.is_trainer(), lent.pointer(), book.bytes.len(), book.count);
     let (from, size) = (record.as_ptr(), record.len());
     // SAFETY: pointers and lengths belong together, and the buffers are apart.
-    let call = |words, words_length| unsafe {
-        ffi::uttt_book_add(trainer, at, length, count, from, size, words, words_length, rule, limit, budget, interval)
+    let call = |words, k| unsafe {
+        ffi::uttt_book_add(
+            trainer, at, length, count, from, size, words, k, rule, limit, budget, interval, staying, margin,
+        )
     };
     let searched = |a: &ffi::AddAnswer| a.code == 0 && (a.verdict == 0 || a.count != count);
     let answered = pool::lend(nodes, pattern, call, |a| if searched(a) { nodes } else { 0 })?;

@@ -1,21 +1,21 @@
 //! Games judged together by the proved library. An answer comes back only if what was lent is as it was but for the
 //! words of the parts, and if there are zeros where no result is due.
 
-use crate::ours::{fields, same, settings_refusal};
+use crate::ours::{fields, same, settings_refusal, unread};
 use crate::{ffi, pool};
 use calls::games::MOST_GAMES;
 use calls::{Answer, Fields, Games};
 
 pub fn answer(call: &Games, pattern: u8) -> Result<Answer, String> {
-    let Games { records, rule, pool, limit, allowance, interval, .. } = call;
+    let Games { records, rule, pool, limit, allowance, interval, stay, .. } = call;
     let records_before = records.clone();
     let shares_before = shares_between_margins(call, pattern);
     let mut shares = shares_before;
     let at = shares.as_mut_ptr().wrapping_add(1) as *const [u64; MOST_GAMES];
-    let (from, size) = (records.as_ptr(), records.len());
+    let (from, size, (staying, margin)) = (records.as_ptr(), records.len(), stay.passed(unread(pattern)));
     // SAFETY: pointers and lengths belong together, and the buffers are apart.
     let export = |words, length| unsafe {
-        ffi::uttt_judge_games(from, size, words, length, at, *rule, *limit, *allowance, *interval)
+        ffi::uttt_judge_games(from, size, words, length, at, *rule, *limit, *allowance, *interval, staying, margin)
     };
     let in_parts = call.part() * call.count() as u64;
     let answered = pool::lend(*pool, pattern, export, |answered| if answered.code == 0 { in_parts } else { 0 })?;

@@ -5,7 +5,7 @@ use crate::lent::Lent;
 use crate::{book, ffi, games, pool};
 use calls::line::Verdict;
 use calls::record::LENGTH;
-use calls::{Answer, Book, Call, Fields, FullVerdict};
+use calls::{Answer, Book, Call, Fields, FullVerdict, Stay};
 
 /// Answers a call under two opposite patterns, or says what is wrong. Both times a book's line begins with `book`,
 /// which is then as the line left it.
@@ -24,11 +24,11 @@ fn answer_under(call: &Call, book: &mut Book, pattern: u8) -> Result<Answer, Str
     match call {
         Call::Moves { record, output } => moves(record, *output, pattern),
         Call::Replay { record, moves, output } => replay(record, moves, *output, pattern),
-        Call::Search { record, rule, pool, limit, budget, interval } => {
-            search(record, *rule, *pool, [*limit, *budget, *interval], pattern)
+        Call::Search { record, rule, pool, limit, budget, interval, stay } => {
+            search(record, *rule, *pool, [*limit, *budget, *interval], *stay, pattern)
         }
-        Call::Full { record, pool, limit, budget, interval } => {
-            full(record, *pool, [*limit, *budget, *interval], pattern)
+        Call::Full { record, pool, limit, budget, interval, stay } => {
+            full(record, *pool, [*limit, *budget, *interval], *stay, pattern)
         }
         Call::Referee { record, rule } => referee(record, *rule),
         Call::Sheets { first, second, output } => sheets(first, second, *output, pattern),
@@ -120,12 +120,13 @@ fn in_one_memory<'a>(first: &'a [u8], second: &'a [u8]) -> (&'a [u8], &'a [u8]) 
 }
 
 /// `limits` are limit, budget and interval.
-fn search(record: &[u8], rule: u64, nodes: u64, limits: [u64; 3], pattern: u8) -> Result<Answer, String> {
+fn search(record: &[u8], rule: u64, nodes: u64, limits: [u64; 3], stay: Stay, pattern: u8) -> Result<Answer, String> {
     let record_before = record.to_vec();
-    let [limit, budget, interval] = limits;
+    let (at, size, [limit, budget, interval]) = (record.as_ptr(), record.len(), limits);
+    let (staying, margin) = stay.passed(unread(pattern));
     // SAFETY: pointers and lengths belong together, and the buffers are apart.
     let call = |words, length| unsafe {
-        ffi::uttt_search(record.as_ptr(), record.len(), words, length, rule, limit, budget, interval)
+        ffi::uttt_search(at, size, words, length, rule, limit, budget, interval, staying, margin)
     };
     let answered = pool::lend(nodes, pattern, call, |answered| if answered.code == 0 { nodes } else { 0 })?;
     same("record", &record_before, record)?;
@@ -139,12 +140,13 @@ fn search(record: &[u8], rule: u64, nodes: u64, limits: [u64; 3], pattern: u8) -
 }
 
 /// `limits` are limit, budget and interval.
-fn full(record: &[u8], nodes: u64, limits: [u64; 3], pattern: u8) -> Result<Answer, String> {
+fn full(record: &[u8], nodes: u64, limits: [u64; 3], stay: Stay, pattern: u8) -> Result<Answer, String> {
     let record_before = record.to_vec();
-    let [limit, budget, interval] = limits;
+    let (at, size, [limit, budget, interval]) = (record.as_ptr(), record.len(), limits);
+    let (staying, margin) = stay.passed(unread(pattern));
     // SAFETY: pointers and lengths belong together, and the buffers are apart.
     let call = |words, length| unsafe {
-        ffi::uttt_full_verdict(record.as_ptr(), record.len(), words, length, limit, budget, interval)
+        ffi::uttt_full_verdict(at, size, words, length, limit, budget, interval, staying, margin)
     };
     let answered = pool::lend(nodes, pattern, call, |answered| if answered.code == 0 { nodes } else { 0 })?;
     same("record", &record_before, record)?;
@@ -165,6 +167,16 @@ fn full(record: &[u8], nodes: u64, limits: [u64; 3], pattern: u8) -> Result<Answ
         other => return Err(format!("answered with full verdict {}", other)),
     };
     Ok(Answer::Full(verdict, fields(answered.first)?, fields(answered.second)?))
+}
+
+/// The margin that is passed where staying is off: if it were read, it would be refused under one pattern, and would
+/// change many results under the other.
+pub fn unread(pattern: u8) -> f64 {
+    if pattern >> 7 == 1 {
+        1.0
+    } else {
+        f64::NAN
+    }
 }
 
 /// The nine fields, or the number that is no verdict's.

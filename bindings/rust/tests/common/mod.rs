@@ -7,7 +7,7 @@ pub mod book;
 pub mod ffi;
 pub mod games;
 
-use ultimattt::{Pool, Record, Rule, Settings, EMPTY_GAME};
+use ultimattt::{Pool, Record, Rule, Settings, Stay, EMPTY_GAME};
 
 pub const RULES: [Rule; 3] = [Rule::DrawLostByMover, Rule::DrawFalse, Rule::DrawTrue];
 
@@ -75,6 +75,19 @@ pub fn refused_records() -> [Vec<u8>; 6] {
 
 pub fn pool(nodes: usize) -> Pool {
     Pool::new(nodes).expect("a pool within the range")
+}
+
+/// S: O to move wins by either of two moves, which are nearly level all the time.
+pub fn s() -> Record {
+    record("A51042A884524D1422CB224CC4B42432CCD332A90C")
+}
+
+/// Staying and margin, as the calls themselves take them.
+pub fn passed(stay: Stay) -> (bool, f64) {
+    match stay {
+        Stay::Off => (false, f64::NAN),
+        Stay::Margin(margin) => (true, margin),
+    }
 }
 
 /// The program judge's settings, but for the budget.

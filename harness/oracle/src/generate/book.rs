@@ -2,6 +2,7 @@
 //! fill up and over books that are broken, that contradict themselves or have entries past the count.
 
 use super::damaged::damaged;
+use super::margins::{no_margin, stay};
 use super::positions::{accepted, ending, late};
 use super::random::Random;
 use super::reading::turned;
@@ -9,7 +10,7 @@ use super::settings::{self, Settings};
 use calls::book::{entry, ENTRY, MARK};
 use calls::record::LENGTH;
 use calls::table::{LARGEST_BUDGET, LARGEST_INTERVAL, LARGEST_POOL, LARGEST_RULE};
-use calls::{Book, BookCall, Who};
+use calls::{Book, BookCall, Stay, Who};
 
 /// The most entries of a book, and the most past those that are used.
 pub const MOST_ENTRIES: usize = 50;
@@ -147,8 +148,8 @@ fn line(random: &mut Random, (record, rule): &Pair) -> BookCall {
         1..=6 => BookCall::Lookup { who: random.pick(&Who::ALL), record, rule: this_or_no_rule(random, rule) },
         7..=10 => BookCall::Publish { who, record, rule: this_or_no_rule(random, rule) },
         _ => {
-            let Settings { rule, pool, limit, budget, interval } = add_settings(random, rule);
-            BookCall::Add { who, record, rule, pool, limit, budget, interval }
+            let Settings { rule, pool, limit, budget, interval, stay } = add_settings(random, rule);
+            BookCall::Add { who, record, rule, pool, limit, budget, interval, stay }
         }
     }
 }
@@ -161,6 +162,15 @@ fn this_or_no_rule(random: &mut Random, rule: u64) -> u64 {
     }
 }
 
+/// A setting of any search, but more often one that is refused: in many books a later check would refuse the add, too.
+fn add_stay(random: &mut Random) -> Stay {
+    if random.once_in(12) {
+        Stay::Margin(no_margin(random))
+    } else {
+        stay(random)
+    }
+}
+
 /// Settings of an add: enough for most endings, or too little for any, or with one that is refused.
 fn add_settings(random: &mut Random, rule: u64) -> Settings {
     let mut settings = Settings {
@@ -169,6 +179,7 @@ fn add_settings(random: &mut Random, rule: u64) -> Settings {
         limit: random.pick(&[0, 20, 1_000, u64::MAX, u64::MAX, u64::MAX]),
         budget: random.pick(&[0, 1, 2, 10, 100, 1_000, 1_000, 3_000, 3_000]),
         interval: random.pick(&[1, 7, 100, 10_000]),
+        stay: add_stay(&mut random.aside()),
     };
     match random.below(60) {
         0 => settings.pool = 0,

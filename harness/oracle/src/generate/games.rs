@@ -2,6 +2,7 @@
 //! that are too small and others, and shares that spend the allowance, leave some for a second pass, or are too much.
 
 use super::damaged::{any_bytes, damaged_position};
+use super::margins::stay;
 use super::positions::{accepted, ending, late, reached};
 use super::random::Random;
 use super::settings;
@@ -31,7 +32,8 @@ pub fn games(random: &mut Random) -> Games {
     let allowance = allowance(random, pool / count.max(1) as u64);
     let shares = shares(random, count.min(MOST_GAMES), allowance);
     let (rule, limit) = (settings::rule(random), limit(random));
-    let mut games = Games { records, rule, pool, limit, allowance, interval: settings::interval(random), shares };
+    let (interval, stay) = (settings::interval(random), stay(&mut random.aside()));
+    let mut games = Games { records, rule, pool, limit, allowance, interval, shares, stay };
     if random.once_in(3) && games_refusal(&games).is_none() {
         near_what_is_taken(random, &mut games);
     }

@@ -6,6 +6,7 @@
 pub mod book;
 mod damaged;
 mod games;
+mod margins;
 mod moves;
 mod positions;
 mod random;
@@ -14,6 +15,7 @@ mod settings;
 mod sheets;
 
 pub use damaged::{any_bytes, damage, Damage};
+pub use margins::{no_margin, stay};
 pub use positions::{ending, late, reachable, reached};
 pub use random::Random;
 
@@ -59,12 +61,12 @@ pub fn call(random: &mut Random, kind: Kind) -> Call {
             Call::Replay { record, moves, output: output(random, RECORD_ROOM) }
         }
         Kind::Search => {
-            let (record, s) = search(random);
-            Call::Search { record, rule: s.rule, pool: s.pool, limit: s.limit, budget: s.budget, interval: s.interval }
+            let (record, Settings { rule, pool, limit, budget, interval, stay }) = search(random);
+            Call::Search { record, rule, pool, limit, budget, interval, stay }
         }
         Kind::Full => {
-            let (record, s) = search(random);
-            Call::Full { record, pool: s.pool, limit: s.limit, budget: s.budget, interval: s.interval }
+            let (record, Settings { pool, limit, budget, interval, stay, .. }) = search(random);
+            Call::Full { record, pool, limit, budget, interval, stay }
         }
         Kind::Referee => referee(random),
         Kind::Sheets => {

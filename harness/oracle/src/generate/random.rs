@@ -18,6 +18,12 @@ impl Random {
         mixed ^ (mixed >> 31)
     }
 
+    /// Another source, by the place that this one has come to. This one stays there.
+    pub fn aside(&self) -> Random {
+        let mut ahead = Random { ..*self };
+        Random { state: !ahead.word() }
+    }
+
     /// A number below `end`, which is not 0.
     pub fn below(&mut self, end: u64) -> u64 {
         self.word() % end

@@ -9,7 +9,7 @@ use calls::book::{entry, MARK};
 use calls::games::MOST_GAMES;
 use calls::record::{Position, LENGTH};
 use calls::table::{MOVES_ROOM, RECORD_ROOM};
-use calls::{Book, BookCall, Call, Games, Who};
+use calls::{Book, BookCall, Call, Games, Stay, Who};
 
 /// Positions that are changed at every place: of random play after so many moves or at the game's end, and so many
 /// other accepted ones, most of which no game reaches.
@@ -50,12 +50,12 @@ pub fn records(random: &mut Random) -> Vec<Vec<u8>> {
 /// book's.
 pub fn lists_of(record: &[u8]) -> Vec<Vec<Call>> {
     let record = || record.to_vec();
-    let (pool, limit, budget, interval) = (82, u64::MAX, 1, 1);
+    let (pool, limit, budget, interval, stay) = (82, u64::MAX, 1, 1, Stay::Off);
     vec![
         vec![Call::Replay { record: record(), moves: vec![], output: RECORD_ROOM }],
         vec![Call::Moves { record: record(), output: MOVES_ROOM }],
-        vec![Call::Search { record: record(), rule: 0, pool, limit, budget, interval }],
-        vec![Call::Full { record: record(), pool, limit, budget, interval }],
+        vec![Call::Search { record: record(), rule: 0, pool, limit, budget, interval, stay }],
+        vec![Call::Full { record: record(), pool, limit, budget, interval, stay }],
         vec![Call::Referee { record: record(), rule: 3 }],
         vec![Call::Games(games_with(record()))],
         lines_of_a_book(record()).map(Call::Book).to_vec(),
@@ -68,8 +68,8 @@ fn games_with(record: Vec<u8>) -> Games {
     let at = place(&record);
     records[at] = record;
     let (pool, allowance) = (82 * MOST_GAMES as u64, MOST_GAMES as u64);
-    let shares = [1; MOST_GAMES];
-    Games { records: records.concat(), rule: 0, pool, limit: u64::MAX, allowance, interval: 1, shares }
+    let (shares, stay) = ([1; MOST_GAMES], Stay::Off);
+    Games { records: records.concat(), rule: 0, pool, limit: u64::MAX, allowance, interval: 1, shares, stay }
 }
 
 /// One of eight places, by the record's bytes.
@@ -87,7 +87,7 @@ fn lines_of_a_book(record: Vec<u8>) -> [BookCall; 9] {
     let of_record = [entry(&whole, 0, 1, 6), entry(&whole, 0, 2, MARK), entry(&whole, 2, 1, MARK)];
     let bytes = near.chain(others.concat()).chain(of_record.concat()).collect();
     let book = Book { bytes, count: LENGTH as u64 + 5 };
-    let (record, who) = (|| record.clone(), Who::Arbiter);
+    let (record, who, stay) = (|| record.clone(), Who::Arbiter, Stay::Off);
     let lookup = |who, rule| BookCall::Lookup { who, record: record(), rule };
     let publish = |rule| BookCall::Publish { who, record: record(), rule };
     [
@@ -96,7 +96,7 @@ fn lines_of_a_book(record: Vec<u8>) -> [BookCall; 9] {
         lookup(Who::Arbiter, 2),
         lookup(Who::Trainer, 0),
         lookup(Who::Trainer, 2),
-        BookCall::Add { who, record: record(), rule: 0, pool: 1, limit: 0, budget: 0, interval: 1 },
+        BookCall::Add { who, record: record(), rule: 0, pool: 1, limit: 0, budget: 0, interval: 1, stay },
         publish(2),
         publish(0),
         lookup(Who::Trainer, 0),

@@ -1,7 +1,10 @@
-//! Settings of a search: the ends of each range, one past them, and numbers between.
+//! Settings of a search: the ends of each range, one past them, and numbers between. The margin is drawn aside, so the
+//! other settings don't depend on it.
 
+use super::margins::stay;
 use super::random::Random;
 use calls::table::{LARGEST_BUDGET, LARGEST_INTERVAL, LARGEST_POOL};
+use calls::Stay;
 
 pub struct Settings {
     pub rule: u64,
@@ -9,6 +12,7 @@ pub struct Settings {
     pub limit: u64,
     pub budget: u64,
     pub interval: u64,
+    pub stay: Stay,
 }
 
 /// `small` bounds the work: the position is far from its end, so with a large pool the budget stays
@@ -23,6 +27,7 @@ pub fn settings(random: &mut Random, small: bool) -> Settings {
         limit: limit(random),
         budget: budget(random),
         interval: interval(random),
+        stay: stay(&mut random.aside()),
     };
     if small && settings.pool > 3_276 && settings.budget <= LARGEST_BUDGET {
         settings.budget %= 10_000;
@@ -38,6 +43,7 @@ fn deep(random: &mut Random) -> Settings {
         limit: random.pick(&[4_000, 20_000, u64::MAX, u64::MAX]),
         budget: if random.once_in(100) { 100_000 } else { random.below(5_000) },
         interval: random.pick(&[1, 7, 100, 1_000]),
+        stay: stay(&mut random.aside()),
     }
 }
 

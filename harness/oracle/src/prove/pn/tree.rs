@@ -11,8 +11,8 @@ pub enum Tree {
     Solved(bool),
     /// An open leaf: neither solved nor expanded.
     Open,
-    /// Expanded and not solved. It is the root's own side that moves, or the other.
-    Expanded { own: bool, children: Vec<Tree> },
+    /// Expanded and not solved. It is the root's own side that moves, or the other; `last` is the move last taken.
+    Expanded { own: bool, last: Option<u8>, children: Vec<Tree> },
 }
 
 impl Tree {
@@ -37,7 +37,7 @@ fn below(prover: &Prover, id: NodeID) -> Tree {
         children.push(below(prover, next));
         next = prover.nodes.get(next).sibling;
     }
-    Tree::Expanded { own: !node.flag(FLAG_AND), children }
+    Tree::Expanded { own: !node.flag(FLAG_AND), last: node.last(), children }
 }
 
 /// A leaf that the patch of step 3 has expanded though the pool is short. The search ends there, and its counts are set
