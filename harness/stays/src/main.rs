@@ -44,8 +44,10 @@ fn tables(rounds: usize) -> Result<(), String> {
         by_all,
         rounds
     );
-    print!("| staying | solved | expansions: all, of those that every setting solves | ms: all, of those ");
-    println!("| fewest expansions | expansions over those with off |\n|---|---|---|---|---|---|");
+    print!("| staying | solved | expansions: all, of those that every setting solves | nodes made: all, of those ");
+    println!(
+        "| ms: all, of those | fewest expansions | expansions over those with off |\n|---|---|---|---|---|---|---|"
+    );
     (0..SETTINGS.len()).for_each(|at| println!("{}", row(&all, at)));
     Ok(())
 }
@@ -55,14 +57,17 @@ fn row(all: &[Ending], at: usize) -> String {
     let solved = all.iter().filter(|ending| ending[at].is_solved()).count();
     let common = || all.iter().filter(|ending| ending.iter().all(Solved::is_solved));
     let expanded = |ending: &Ending| ending[at].fields.expanded;
+    let made = |ending: &Ending| ending[at].fields.allocated;
     let fewest = all.iter().filter(|ending| ending[at].is_solved() && is_fewest(ending, at)).count();
     let over_off = spread(common().map(|ending| expanded(ending) as f64 / ending[0].fields.expanded as f64).collect());
     format!(
-        "| {} | {} | {}, {} | {:.0}, {:.0} | {} | {:.2} |",
+        "| {} | {} | {}, {} | {}, {} | {:.0}, {:.0} | {} | {:.2} |",
         SETTINGS[at].0,
         solved,
         all.iter().map(expanded).sum::<u64>(),
         common().map(expanded).sum::<u64>(),
+        all.iter().map(made).sum::<u64>(),
+        common().map(made).sum::<u64>(),
         all.iter().map(|ending| ending[at].time).sum::<f64>(),
         common().map(|ending| ending[at].time).sum::<f64>(),
         fewest,
