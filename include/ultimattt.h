@@ -152,8 +152,11 @@ enum uttt_cause {
 #define UTTT_NODE_WORDS 5
 #define UTTT_POOL_MOST 16777216
 
-/* Ranges: budget, share, allowance 0 to the most; interval 1 to the most; limit any number, UINT64_MAX for none. */
-#define UTTT_BUDGET_MOST UINT64_C(1000000000000)
+/*
+ * Ranges: budget, share, allowance 0 to the most; interval 1 to the most; limit any number, UINT64_MAX for none. Some
+ * positions take more than the largest budget: a search that it stops is Unknown.
+ */
+#define UTTT_BUDGET_MOST UINT64_C(3000000)
 #define UTTT_INTERVAL_MOST 1000000
 
 /*

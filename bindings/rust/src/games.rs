@@ -8,12 +8,12 @@ use crate::{ffi, Pool, Refusal, Rule, SearchResult, Settings, Stay, GAMES_MOST, 
 pub struct GamesSettings {
     /// The most live nodes of a game, looked at on every interval-th expansion of that game.
     pub limit: u64,
-    /// The most expansions of all games together, 0 to 1,000,000,000,000.
+    /// The most expansions of all games together, 0 to [`BUDGET_MOST`](crate::BUDGET_MOST).
     pub allowance: u64,
     /// 1 to 1,000,000.
     pub interval: u64,
-    /// For each game, the most expansions of the first pass, 0 to 1,000,000,000,000; their sum is at most the
-    /// allowance. Those past the last game are not read: any number may stand there.
+    /// For each game, the most expansions of the first pass, 0 to [`BUDGET_MOST`](crate::BUDGET_MOST); their sum is at
+    /// most the allowance. Those past the last game are not read: any number may stand there.
     pub shares: [u64; GAMES_MOST],
     /// Whether each game's search stays on a line.
     pub stay: Stay,

@@ -42,7 +42,7 @@ pub const POOL_MOST: usize = 16_777_216;
 /// The most games that are judged together.
 pub const GAMES_MOST: usize = 8;
 /// The largest budget, share and allowance.
-pub const BUDGET_MOST: u64 = 1_000_000_000_000;
+pub const BUDGET_MOST: u64 = 3_000_000;
 /// The largest interval.
 pub const INTERVAL_MOST: u64 = 1_000_000;
 /// A proof or disproof number from here upward stands for infinity.
@@ -84,7 +84,7 @@ impl Rule {
 pub struct Settings {
     /// The most live nodes, looked at on every interval-th expansion.
     pub limit: u64,
-    /// The most expansions, 0 to 1,000,000,000,000.
+    /// The most expansions, 0 to [`BUDGET_MOST`].
     pub budget: u64,
     /// 1 to 1,000,000.
     pub interval: u64,

@@ -158,7 +158,7 @@ impl Refusal {
             Refusal::PoolTooLarge => "the pool has more than 16,777,216 nodes",
             Refusal::SettingRange => {
                 "the rule is over 2, the interval is not 1 to 1,000,000, or the budget, a share or the allowance is \
-                 over 1,000,000,000,000"
+                 over 3,000,000"
             }
             Refusal::OutOfBounds(_) => "its board or its cell is not 0 to 8",
             Refusal::GameOver(_) => "the game is over",

@@ -75,7 +75,7 @@ fn pools() {
 fn settings() {
     let words =
         "the rule is over 2, the interval is not 1 to 1,000,000, or the budget, a share or the allowance is over \
-                 1,000,000,000,000";
+                 3,000,000";
     let usual = Settings::default();
     for interval in [0, INTERVAL_MOST + 1] {
         refused(searched(30, Settings { interval, ..usual }), Refusal::SettingRange, 10, words);

@@ -47,7 +47,7 @@ module _ {shares : List ℕ} {words n size : ℕ} {c : Common} (g : Shaped share
       some = omega (arith, part-nodes, g .some);
       few = omega (arith, part-nodes, g .most);
       interval-some = g .interval-some;
-      budget-most = omega (arith, ap (λ k. getD shares k 0) q, total-one (λ k. getD shares k 0) 0 n i l, g .shared, g .allowance-most);
+      countable = omega (arith, ap (λ k. getD shares k 0) q, total-one (λ k. getD shares k 0) 0 n i l, g .shared, g .allowance-most);
       rule-few = g .rule-few;
       stay-in-range = g .stay-in-range;
     }

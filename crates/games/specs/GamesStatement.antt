@@ -74,8 +74,9 @@ pub record GamesStatement (bytes shares : List ℕ) (C : Common) (before after :
       → let S = granting C (grantOfGame bytes shares C (length before) i) in
       ThirdCondition (recordAt bytes i) (C .rule) S T (partWords (length before) (games bytes)) words (resultOfGame o i) s
       × ThirdCondition (recordAt bytes i) (C .rule) T S words (partWords (length before) (games bytes)) s (resultOfGame o i)
-  -- No game is granted less than its share, and the expansions of all together never exceed the allowance.
+  -- No game is granted less than its share, nor more than the allowance, so no grant is out of a budget's range; and the expansions of all together never exceed the allowance.
   pub least : o .number ≡ 0 → (i : ℕ) → i < games bytes → getD shares i 0 ≤ grantOfGame bytes shares C (length before) i
+  pub most : o .number ≡ 0 → (i : ℕ) → i < games bytes → grantOfGame bytes shares C (length before) i ≤ C .allowance
   pub within : o .number ≡ 0 → total (answers (λ i. resultOfGame o i .expanded) 0 (games bytes)) ≤ C .allowance
   -- A refused record is named by its game, the earliest check first and then the lowest game; where no record is refused, or checks 1 and 20 come first, the index is 0.
   pub named : numberRefusal bytes ≡ 0 → (k : ℕ) → k < games bytes → (refusalAt bytes k ≡ 0 → ⊥) → Named bytes (o .number) (o .index)

@@ -217,11 +217,13 @@ module _ (bytes shares : List ℕ) (C : Common) (w : List ℕ) where
               ∙ ap (λ x. C .allowance - (x + spent game i (games bytes - i))) (expanded-is i (omega arith))),
         )
 
+    most : (i : ℕ) → i < games bytes → grantOfGame bytes shares C (length w) i ≤ C .allowance
+    most i l = grant-within game bounded (C .allowance) (games bytes) shared i l
+
     -- every check of the lone search is passed
     lone-accepted : (i : ℕ) → i < games bytes → searchRefusal (recordAt bytes i) (nodes size) (C .rule) (granting C (grantOfGame bytes shares C (length w) i)) ≡ 0
     unfolding searchRefusal firstRefusal
     lone-accepted i l =
-        let most = grant-within game bounded (C .allowance) (games bytes) shared i l in
         rw (
           loads i l,
           le-ltb (size / 5) poolLeast part-least,
@@ -229,7 +231,7 @@ module _ (bytes shares : List ℕ) (C : Common) (w : List ℕ) where
           le-ltb lastRule (C .rule) (fine .rule-most),
           le-ltb (C .interval) intervalLeast (fine .interval-least),
           le-ltb intervalMost (C .interval) (fine .interval-most),
-          le-ltb budgetMost (grantOfGame bytes shares C (length w) i) (omega (arith, most, fine .allowance-most)),
+          le-ltb budgetMost (grantOfGame bytes shares C (length w) i) (omega (arith, most i l, fine .allowance-most)),
           fine .stay-in-range,
         )
 
@@ -279,6 +281,7 @@ games-statement bytes shares C w v pool = record {
       let r = resultOfGame (gamesCall bytes (length w) shares C) i in
       (third-condition _ _ _ T _ words r s (each bytes shares C w z i l) e, third-condition _ _ T _ words _ s r e (each bytes shares C w z i l));
   least = λ z i l. grant-least (gameAt bytes (length w) shares C i) (bounded bytes shares C w z i) (unspentAt (gameAt bytes (length w) shares C) (C .allowance) (games bytes) i);
+  most = most bytes shares C w;
   within = within bytes shares C w;
   named = named bytes shares C w;
   unnamed = unnamed bytes shares C w;

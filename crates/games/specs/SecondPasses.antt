@@ -50,7 +50,7 @@ module _ {shares : List ℕ} {n size : ℕ} {c : Common} {kept : List Kept} {lef
       start = h .from .0 i;
       stopped = stopped (h .from .0) (h .from .1);
       ranges = part-ranges g w (h .long) i l;
-      most = omega (arith, within (h .from .0) (h .from .1), g .allowance-most);
+      countable = omega (arith, within (h .from .0) (h .from .1), g .allowance-most);
     }
 
     module _ (v : List ℕ) (t : Turn) (long : length v ≡ length (cut (i * size) (i * size + size) w))

@@ -28,7 +28,7 @@ Names bytes number index = (earliest (refusals bytes) ≡ number) × (lowest num
 
 -- Eight shares; the checks of a pool with so many nodes and n games, with limit 0
 abbrev shares : List ℕ
-shares = 5 ∷ 6 ∷ 7 ∷ 18446744073709551615 ∷ 0 ∷ 0 ∷ 0 ∷ 1000000000001 ∷ []
+shares = 5 ∷ 6 ∷ 7 ∷ 18446744073709551615 ∷ 0 ∷ 0 ∷ 0 ∷ 3000001 ∷ []
 
 abbrev settings : (nodes n rule allowance interval : ℕ) → ℕ
 settings nodes n rule allowance interval = settingsRefusal nodes n (sharesOf shares n) (common rule 0 allowance interval Off)
@@ -63,9 +63,9 @@ pub record ChecksCases : Type 0 where
   pub interval-0 : settings 3 3 1 18 0 ≡ 10
   pub interval-most : settings 3 3 1 18 1000000 ≡ 0
   pub interval-over : settings 3 3 1 18 1000001 ≡ 10
-  pub allowance-most : settings 3 3 1 1000000000000 1 ≡ 0
-  pub allowance-over : settings 3 3 1 1000000000001 1 ≡ 10
-  pub share-over : settings 4 4 1 1000000000000 1 ≡ 10
+  pub allowance-most : settings 3 3 1 3000000 1 ≡ 0
+  pub allowance-over : settings 3 3 1 3000001 1 ≡ 10
+  pub share-over : settings 4 4 1 3000000 1 ≡ 10
   -- shares past the last game are not read; those of the games sum to the allowance, and to one above
   pub sum-equal : settings 2 2 1 11 1 ≡ 0
   pub sum-above : settings 2 2 1 10 1 ≡ 20

@@ -8,7 +8,7 @@ use lib.Dec.{ltb}
 use lib.ListN.{length}
 use Rattle.rules.specs.Rules.{any}
 use Rattle.rules.specs.Refusals.{refuses, firstRefusal}
-use Rattle.rules.specs.RefusalLaws.{none-refuses, passes-need, passes-check}
+use Rattle.rules.specs.RefusalLaws.{none-refuses, same-first, passes-need, passes-check}
 use Rattle.passes.specs.Passes.{total}
 use Rattle.stay.specs.Margin.{stayInRange, StayInRange}
 use Rattle.calls.specs.Calls.{lastRule}
@@ -16,12 +16,6 @@ use Rattle.calls.specs.Refusing.{passes-test}
 use Rattle.searches.specs.Searches.{poolLeast, poolMost, intervalLeast, intervalMost, budgetMost}
 use Rattle.games_checks.specs.Checks.{gamesLeast, gamesMost, games, numberRefusal, Common, settingsRefusal}
 use Rattle.games_checks.specs.Sums.{Summing}
-
--- checks that come after the same one
-same-first : (n : ℕ) (ns ms : List ℕ) → firstRefusal ns ≡ firstRefusal ms → firstRefusal (n ∷ ns) ≡ firstRefusal (n ∷ ms)
-unfolding firstRefusal
-same-first zero ns ms e = e
-same-first (suc n) ns ms e = refl
 
 -- the checks with the sum that the code has: it counts only where no share is above the range
 pub settings-refuse : (capacity n : ℕ) (shares : List ℕ) (C : Common) (above : Bool) (sum : ℕ) → Summing shares above sum

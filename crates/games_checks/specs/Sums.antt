@@ -11,7 +11,7 @@ use Rattle.rules.specs.Rules.{answers, any}
 use Rattle.rules.specs.Answers.{length-answers}
 use Rattle.passes.specs.Passes.{total}
 use Rattle.searches.specs.Searches.{budgetMost}
-use Rattle.games_checks.specs.Checks.{sharesOf}
+use Rattle.games_checks.specs.Checks.{gamesMost, sharesOf}
 
 -- whether one of them is above the range, and their sum if none is
 pub record Summing (ns : List ℕ) (above : Bool) (sum : ℕ) : Type 0 where
@@ -59,5 +59,5 @@ summed-done shares n i above sum l h =
     subst (λ m. Summing (answers (λ k. getD shares k 0) 0 m) above sum) z (subst (λ m. Summing (answers (λ k. getD shares k 0) m (n - m)) above sum) q (h .summing))
 
 -- there is room for one more
-pub summed-room : (shares : List ℕ) (n i : ℕ) (above : Bool) (sum : ℕ) → n ≤ 8 → Summed shares n i above sum → sum ≤ 8000000000000
+pub summed-room : (shares : List ℕ) (n i : ℕ) (above : Bool) (sum : ℕ) → n ≤ gamesMost → Summed shares n i above sum → sum ≤ gamesMost * budgetMost
 summed-room shares n i above sum l h = omega (arith, h .summing .most, length-answers (λ k. getD shares k 0) i (n - i))

@@ -5,7 +5,8 @@ ghost use mathlib.Core.List.{List, _∷_};
 ghost use Prim.Native.Nat.{ℕ, suc, _*_, _≤_, _<_};
 ghost use lib.ListN.{length};
 ghost use Rattle.rules.specs.Rules.{answers};
-ghost use Rattle.games_checks.specs.Checks.{numberRefusal, refusalAt, sharesOf, settingsRefusal};
+ghost use Rattle.searches.specs.Searches.{budgetMost};
+ghost use Rattle.games_checks.specs.Checks.{gamesMost, numberRefusal, refusalAt, sharesOf, settingsRefusal};
 ghost use Rattle.games_checks.specs.Common.{commonOf};
 ghost use Rattle.games_checks.specs.Earliest.{EarlyAt};
 ghost use Rattle.games_checks.specs.Sums.{Summing};
@@ -100,7 +101,7 @@ pub struct Sum {
 
 // One more share.
 fn added(share: u64, s: Sum) -> Sum
-    requires { ⌜ s .total ≤ 8000000000000 ⌝ }
+    requires { ⌜ s .total ≤ gamesMost * budgetMost ⌝ }
     ensures { λ r. ⌜ ((ns : List ℕ) → Summing ns (s .above) (s .total) → Summing (share ∷ ns) (r .above) (r .total)) ⌝ }
 {
     if share > MOST_BUDGET {

@@ -1,4 +1,4 @@
--- A search of a position between two rounds, as its code keeps it, and its result. Rests on prover's Stands, Courses, Ticks, Root and Results.
+-- A search of a position between two rounds, as its code keeps it, and its result. Rests on prover's Stands, expand's counter-max, Courses, Ticks, Root and Results.
 use mathlib.Core.Path.{_≡_, refl, ap, sym, _∙_}
 use mathlib.Core.Bool.{true, false, true≢false, cond, _||_}
 use mathlib.Core.List.{List}
@@ -19,6 +19,7 @@ use Rattle.words.specs.Packed.{view}
 use Rattle.words.specs.Words.{PHI, DELTA, word, capacity}
 use Rattle.words.specs.Trees.{Held}
 use Rattle.prover.specs.Stands.{Stands}
+use Rattle.expand.specs.Expandable.{counter-max}
 use Rattle.stay.specs.Margin.{stayOf, StayInRange}
 use Rattle.pn.specs.Ticks.{Ticks}
 use Rattle.pn.specs.Courses.{Leads, Ends, Spent, leads-again}
@@ -36,12 +37,16 @@ policyFor s p = policyOf (s .rule) (p .side) (stayOf (s .stay))
 pub settings-long : (w v : List ℕ) (s : Settings) → length v ≡ length w → machineSettings v s ≡ machineSettings w s
 settings-long w v s e = rw e
 
+-- a budget with which every count keeps within its word: the root is made, and up to 81 nodes at each expansion
+abbrev pub Countable : ℕ → Type 0
+Countable budget = 1 + 81 * budget < counter-max
+
 -- the ranges that keep counts within their words, and products of floats exact
 pub record Ranges (w : List ℕ) (s : Settings) : Type 0 where
   pub some : 0 < capacity w
   pub few : capacity w ≤ pool-max
   pub interval-some : 0 < s .interval
-  pub budget-most : s .budget ≤ 1000000000000
+  pub countable : Countable (s .budget)
   pub rule-few : s .rule < 3
   pub stay-in-range : StayInRange (s .stay)
 

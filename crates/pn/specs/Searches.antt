@@ -62,7 +62,7 @@ ranges-long w v s long r = record {
   some = omega (arith, r .some);
   few = omega (arith, r .few);
   interval-some = r .interval-some;
-  budget-most = r .budget-most;
+  countable = r .countable;
   rule-few = r .rule-few;
   stay-in-range = r .stay-in-range;
 }

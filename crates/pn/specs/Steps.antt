@@ -93,8 +93,8 @@ module _ (p : Position) (s : Settings) (w : List ℕ) where
             legal = o .legal;
             room = rw same room;
             deep = omega (arith, place, depth-left G L p (t .above) (t .node) (f .rest .above), L .falls (t .node .pos) (o .some) (o .legal), g .few);
-            few-allocated = omega (arith, st .tree .allocated-is, ap (λ c. c .allocated) (f .counts-same), g .allocated-most, l .0, ranges .budget-most);
-            few-expanded = omega (arith, st .expanded-is, ap (λ c. c .expanded) (f .counts-same), l .0, ranges .budget-most);
+            few-allocated = omega (arith, st .tree .allocated-is, ap (λ c. c .allocated) (f .counts-same), g .allocated-most, l .0, ranges .countable);
+            few-expanded = omega (arith, st .expanded-is, ap (λ c. c .expanded) (f .counts-same), l .0, ranges .countable);
           }
 
       -- what climbing asks for

@@ -14,7 +14,7 @@ use Rattle.stay.specs.Margin.{stayOf}
 use Rattle.words.specs.Words.{capacity}
 use Rattle.passes.specs.Passes.{OneGame, first, grantWith, unspentAfter}
 use Rattle.pn.specs.Results.{machineSettings, resultOf}
-use Rattle.pn.specs.Going.{Ranges, withBudget, cause-spent, spent-cause, settings-long}
+use Rattle.pn.specs.Going.{Countable, Ranges, withBudget, cause-spent, spent-cause, settings-long}
 use Rattle.pn.specs.declared.Settings.{Settings}
 use Rattle.pn.specs.declared.SearchResult.{SearchResult}
 use Rattle.resume.specs.Lone.{lone, lone-spent}
@@ -31,7 +31,7 @@ pub record Passable (w : List ℕ) (k : Kept) (s : Settings) (unspent : ℕ) : T
   pub start : Position
   pub stopped : Stopped start s w k
   pub ranges : Ranges w s
-  pub most : k .running .prover .expanded + unspent ≤ 1000000000000
+  pub countable : Countable (k .running .prover .expanded + unspent)
 
 -- what it comes to, by the definition of the two passes
 pub record Passes (p : Position) (s : Settings) (w : List ℕ) (unspent : ℕ) (r : Turn) : Type 0 where
@@ -78,8 +78,8 @@ module _ {p : Position} {s : Settings} {w : List ℕ} {k : Kept} (h : Stopped p 
         record { result-is = same; unspent-is = omega (arith, first-expanded, spent-all, ap (λ (x : machine.Result). x .expanded) same) }
 
     -- what going on asks for
-    unfoldable pub to-go-on : Ranges w s → k .running .prover .expanded + u ≤ 1000000000000 → Resumable w k (withBudget s (s .budget + u))
-    to-go-on ranges most = record {
+    unfoldable pub to-go-on : Ranges w s → Countable (k .running .prover .expanded + u) → Resumable w k (withBudget s (s .budget + u))
+    to-go-on ranges countable = record {
       start = p;
       budget = s .budget;
       stopped = h;
@@ -89,7 +89,7 @@ module _ {p : Position} {s : Settings} {w : List ℕ} {k : Kept} (h : Stopped p 
         some = ranges .some;
         few = ranges .few;
         interval-some = ranges .interval-some;
-        budget-most = omega (arith, spent-all);
+        countable = omega (arith, spent-all);
         rule-few = ranges .rule-few;
         stay-in-range = ranges .stay-in-range;
       };

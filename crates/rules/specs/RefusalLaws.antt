@@ -23,6 +23,26 @@ unfolding firstRefusal
 rest-refuses zero ns e = refl
 rest-refuses (suc n) ns e = absurd (omega arith)
 
+-- checks that come after the same one
+pub same-first : (n : ℕ) (ns ms : List ℕ) → firstRefusal ns ≡ firstRefusal ms → firstRefusal (n ∷ ns) ≡ firstRefusal (n ∷ ms)
+unfolding firstRefusal
+same-first zero ns ms e = e
+same-first (suc n) ns ms e = refl
+
+-- a check with the number that the rest refuses by decides nothing
+pub same-number : (n : ℕ) (wrong : Bool) (ns : List ℕ) → firstRefusal ns ≡ n → firstRefusal (refuses n wrong ∷ ns) ≡ n
+unfolding firstRefusal
+same-number n false ns e = e
+same-number zero true ns e = e
+same-number (suc n) true ns e = refl
+
+-- a list as the first check of another
+pub nested : (ns ms : List ℕ) → firstRefusal (firstRefusal ns ∷ ms) ≡ firstRefusal (ns ++ ms)
+unfolding firstRefusal
+nested [] ms = refl
+nested (zero ∷ ns) ms = nested ns ms
+nested (suc n ∷ ns) ms = refl
+
 -- the last check of a list has the last word
 pub last-refuses : (n : ℕ) → firstRefusal (n ∷ []) ≡ n
 unfolding firstRefusal
@@ -47,6 +67,13 @@ unfolding firstRefusal
 passes-last [] = refl
 passes-last (zero ∷ ns) = passes-last ns
 passes-last (suc n ∷ ns) = refl
+
+-- a list that ends with a refusal refuses
+pub end-refuses : (ns : List ℕ) (n : ℕ) → firstRefusal (ns ++ (suc n ∷ [])) ≡ 0 → ⊥
+unfolding firstRefusal
+end-refuses [] n e = omega arith
+end-refuses (zero ∷ ns) n e = end-refuses ns n e
+end-refuses (suc k ∷ ns) n e = omega arith
 
 -- a check that passes: what it looks for isn't so, or what it asks for is
 pub passes-check : (n : ℕ) (wrong : Bool) → refuses (suc n) wrong ≡ 0 → wrong ≡ false

@@ -1,5 +1,5 @@
 -- Laws of tests: what a chain of conditions that gives 0 tells, all and any under a change, what a test keeps of a list, and lists with the same bytes. Rests on Rules and the library's Booleans.
-use mathlib.Core.Bool.{Bool, true, false, cond, not, _&&_, _||_, and-false, and-true, true≢false, false≢true}
+use mathlib.Core.Bool.{Bool, true, false, cond, not, _&&_, _||_, and-false, and-true, or-true, true≢false, false≢true}
 use mathlib.Core.Path.{_≡_, refl, sym, ap, _∙_}
 use mathlib.Core.List.{List, [], _∷_, List·Memᴰ, List·Memᴰ·head, List·Memᴰ·tail, List·Memᴰ·not-nil}
 use mathlib.Core.Logic.{_⊎_, inl, inr}
@@ -91,6 +91,15 @@ module _ {ℓ} {A : Type ℓ} (f : A → Bool) where
           → (i : ℕ) × (i < length (x ∷ l)) × (f (getD (x ∷ l) i d) ≡ true)
       go (inl q) h = (0, omega arith, q)
       go (inr q) h = let r = h q in (suc (r .0), suc-le-suc (r .1), r .2)
+
+  pub at-any : (l : List A) (i : ℕ) (d : A) → i < length l → f (getD l i d) ≡ true → any f l ≡ true
+  at-any [] i d h e = absurd (not-suc-le-zero h)
+  at-any (x ∷ l) zero d h e = rw e
+  at-any (x ∷ l) (suc i) d h e = rw (at-any l i d (le-of-suc-le-suc h) e) (or-true (f x))
+
+  pub at-none : (l : List A) (d : A) → ((i : ℕ) → i < length l → f (getD l i d) ≡ false) → any f l ≡ false
+  at-none [] d h = refl
+  at-none (x ∷ l) d h = rw (h 0 (omega arith)) (at-none l d (λ i b. h (suc i) (suc-le-suc b)))
 
 -- what is kept of a list is in it and passes the test, and the other way round
 module _ {A : Type 0} (f : A → Bool) where

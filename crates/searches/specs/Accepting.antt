@@ -93,7 +93,7 @@ to-search bytes g w rule L h =
         some = omega (arith, a .range .some);
         few = omega (arith, a .range .most);
         interval-some = omega (arith, a .interval-least);
-        budget-most = a .budget-most;
+        countable = omega (arith, a .budget-most);
         rule-few = omega (arith, a .rule-most);
         stay-in-range = a .stay-in-range;
       };

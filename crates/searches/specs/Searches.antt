@@ -28,7 +28,7 @@ abbrev pub intervalMost : ℕ
 intervalMost = 1000000
 
 abbrev pub budgetMost : ℕ
-budgetMost = 1000000000000
+budgetMost = 3000000
 
 -- What comes in beside the record, the rule and the pool.
 abbrev pub Limits : Type 0

@@ -81,7 +81,7 @@ pub record StayAnswers : Type 0 where
   -- 3, 8 and 10 before 21
   pub record-first : searchCall (record21 0x7A0000000000000000000000000000000000000000) (pool 1) 0 (staying 0 (by-bits 0x3F60000000000000)) ≡ Refused 3
   pub pool-first : searchCall E 4 0 (staying 0 (by-bits 0x3F60000000000000)) ≡ Refused 8
-  pub budget-first : searchCall E (pool 1) 0 (staying 1000000000001 (by-bits 0x3F60000000000000)) ≡ Refused 10
+  pub budget-first : searchCall E (pool 1) 0 (staying 3000001 (by-bits 0x3F60000000000000)) ≡ Refused 10
 
 pub stay-answers : StayAnswers
 unfolding computedSearch positionRefusal refusal firstRefusal searchRefusal searchCall fullCall by-bits

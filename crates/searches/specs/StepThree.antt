@@ -31,7 +31,7 @@ pub record StepThree : Type 0 where
   -- W, with budget 1, is answered with a pool of 2 nodes, and with 1 stops with cause 2.
   pub W-two : (rule : ℕ) → rule ≤ lastRule → searchCall W (pool 2) rule (judging 1) ≡ Answered (fields True 0 2147483648 2 1 1 0 1 0)
   pub W-one : (rule : ℕ) → rule ≤ lastRule → searchCall W (pool 1) rule (judging 1) ≡ Answered (fields Unknown 1 1 1 0 0 0 0 2)
-  -- N nodes are still enough, where limit and budget are at least N too.
+  -- N nodes are still enough, where limit and budget are at least N too: for N up to 3,000,000, the largest budget.
   pub enough : (bytes : List ℕ) (words rule : ℕ) (L : Limits) (r : Result) → searchCall bytes words rule L ≡ Answered r
       → recordSequences bytes ≤ nodes words → recordSequences bytes ≤ L .limit → recordSequences bytes ≤ L .budget → r .verdict ≡ Unknown → ⊥
   -- The machine that is compared with asks for a node for each legal move: by it W, which has five, stops at a pool of 5.

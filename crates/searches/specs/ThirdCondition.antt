@@ -25,6 +25,7 @@ pub record ThirdCondition (bytes : List ℕ) (rule : ℕ) (S T : Limits) (words 
   -- Each is Unknown exactly when neither proof nor disproof is 0.
   pub first-unknown : (r .verdict ≡ Unknown) ↔ ((r .proof ≡ 0 → ⊥) × (r .disproof ≡ 0 → ⊥))
   pub second-unknown : (s .verdict ≡ Unknown) ↔ ((s .proof ≡ 0 → ⊥) × (s .disproof ≡ 0 → ⊥))
-  -- With pool, limit and budget at least N it is never Unknown.
+  -- With pool, limit and budget at least N it is never Unknown. An accepted budget is at most 3,000,000, and an accepted pool has at most 16,777,216 nodes: so this
+  -- is said of N up to 3,000,000, and of no other (`budgets-of-N` of TwoSearches).
   pub first-decided : recordSequences bytes ≤ nodes words → recordSequences bytes ≤ S .limit → recordSequences bytes ≤ S .budget → r .verdict ≡ Unknown → ⊥
   pub second-decided : recordSequences bytes ≤ nodes words′ → recordSequences bytes ≤ T .limit → recordSequences bytes ≤ T .budget → s .verdict ≡ Unknown → ⊥

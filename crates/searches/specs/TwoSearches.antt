@@ -2,11 +2,12 @@
 use mathlib.Core.Path.{_≡_, refl}
 use mathlib.Core.List.{List}
 use mathlib.Core.Logic.{_↔_}
-use Prim.Native.Nat.{ℕ, _<_}
+use Prim.Native.Nat.{ℕ, _≤_, _<_}
 use native.Mathlib.Omega.{arith}
 use Rattle.machine.specs.Machine.{Result}
+use Rattle.plain.specs.Plain.{recordSequences}
 use Rattle.plain.specs.TwoSearches as plain-searches
-use Rattle.searches.specs.Searches.{Limits, Answered, settings, searchCall}
+use Rattle.searches.specs.Searches.{budgetMost, Limits, Answered, settings, searchCall}
 use Rattle.searches.specs.Accepting.{accepts}
 use Rattle.searches.specs.SearchAnswers.{answered}
 use Rattle.searches.specs.ThirdCondition.{ThirdCondition}
@@ -36,3 +37,8 @@ third-condition bytes rule S T words words′ r s e f =
       first-decided = h .first .decided;
       second-decided = h .second .decided;
     })
+
+-- An accepted budget is at least N only where N is in the budget's range: of a larger N `first-decided` and `second-decided` say nothing
+pub budgets-of-N : (bytes : List ℕ) (words rule : ℕ) (L : Limits) (r : Result) → searchCall bytes words rule L ≡ Answered r → recordSequences bytes ≤ L .budget
+    → recordSequences bytes ≤ budgetMost
+budgets-of-N bytes words rule L r e l = omega (arith, l, accepts _ _ _ _ (answered bytes words rule L r e .0) .budget-most)

@@ -31,7 +31,7 @@ pub const LEAST_INTERVAL: u64 = 1;
 
 pub const MOST_INTERVAL: u64 = 1000000;
 
-pub const MOST_BUDGET: u64 = 1000000000000;
+pub const MOST_BUDGET: u64 = 3000000;
 
 // What a search is given beside the record, the pool and the rule.
 pub struct SearchLimits {

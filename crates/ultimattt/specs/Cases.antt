@@ -1,5 +1,5 @@
 -- The cases of MANUAL, Positions to try, that are proved from the definitions, in one lemma, with ours. Rests on Calls and Searches, on plain's Cases
--- for the records E, W and D and for the plain machine's results, on RoomCases, GamesCases, StayCases, and on the Cases of stay, meaning, sheets, book, passes, games_checks
+-- for the records E, W and D and for the plain machine's results, on RoomCases, GamesCases, BudgetCases, StayCases, and on the Cases of stay, meaning, sheets, book, passes, games_checks
 -- and cells.
 use mathlib.Core.Path.{_≡_, refl}
 use mathlib.Core.List.{List, [], _∷_, _++_}
@@ -29,6 +29,7 @@ use Rattle.searches.specs.StayCases.{StayAnswers, stay-answers}
 use Rattle.stay.specs.Cases.{MarginCases, margin-cases}
 use Rattle.searches.specs.Searches.{Limits, nodes, settings, searchRefusal, Refused, Answered, searchCall, fullOf, Draw, AtLeastDraw, Full, Turned, fullCall}
 use Rattle.games_checks.specs.Cases.{ChecksCases, checks-cases}
+use Rattle.ultimattt.specs.BudgetCases.{BudgetCases, budget-cases}
 use Rattle.ultimattt.specs.GamesCases.{GamesCases, games-cases}
 use Rattle.ultimattt.specs.RoomCases as room-cases
 use Rattle.ultimattt.specs.RoomCases.{short-at-once, RoomAnswers, room-answers}
@@ -113,6 +114,8 @@ pub record Cases : Type 0 where
   pub passes : PassesCases
   pub games-checks : ChecksCases
   pub games : GamesCases
+  -- the largest budget, share and allowance, and one above
+  pub budgets : BudgetCases
   -- a record's three words: the cases of crate cells; E with 03 32 and with 32, which take cell 29, and code 3 there
   pub words : WordsCases
   pub O-29 : replayCall E (0x03 ∷ 0x32 ∷ []) out21 ≡ replayOutcome 0 0 (record21 0x100800000000000100000000000000000000000000)
@@ -167,6 +170,7 @@ cases = record {
   passes = passes-cases;
   games-checks = checks-cases;
   games = games-cases;
+  budgets = budget-cases;
   words = words-cases;
   O-29 = refl;
   X-29 = refl;

@@ -23,17 +23,17 @@ abbrev eight : List ℕ → List ℕ
 eight shares = shares ++ replicate (8 - length shares) 18446744073709551615
 
 -- Rule 0 and no limit, with judge's interval.
-abbrev unlimited : (allowance : ℕ) → Common
+abbrev pub unlimited : (allowance : ℕ) → Common
 unlimited allowance = common 0 18446744073709551615 allowance 10000 Off
 
-abbrev Judges : (bytes : List ℕ) (nodes : ℕ) (shares : List ℕ) → Common → List Result → Type 0
+abbrev pub Judges : (bytes : List ℕ) (nodes : ℕ) (shares : List ℕ) → Common → List Result → Type 0
 Judges bytes nodes shares C rs = gamesCall bytes (words nodes) (eight shares) C ≡ record { number = 0; index = 0; count = length rs; results = rs ++ replicate (8 - length rs) noResult }
 
-abbrev Refuses : (bytes : List ℕ) (nodes : ℕ) (shares : List ℕ) → Common → (number index : ℕ) → Type 0
+abbrev pub Refuses : (bytes : List ℕ) (nodes : ℕ) (shares : List ℕ) → Common → (number index : ℕ) → Type 0
 Refuses bytes nodes shares C number index = gamesCall bytes (words nodes) (eight shares) C ≡ refused number index
 
 -- The manual's A, which X, to move, wins with seven expansions.
-abbrev A : List ℕ
+abbrev pub A : List ℕ
 A = ending-x
 
 -- Results of E after none and one expansion, of A after three, five and seven, and of W and D.
@@ -49,13 +49,13 @@ A-3 = fields Unknown 1 4 7 0 0 0 3 1
 abbrev A-5 : Result
 A-5 = fields Unknown 1 3 10 3 0 3 5 1
 
-abbrev A-7 : Result
+abbrev pub A-7 : Result
 A-7 = fields True 0 2147483650 12 11 3 3 7 0
 
-abbrev won : Result
+abbrev pub won : Result
 won = fields True 0 2147483648 2 1 1 0 1 0
 
-abbrev lost : Result
+abbrev pub lost : Result
 lost = fields False 2147483648 0 1 0 0 0 0 0
 
 -- Each field is a case.

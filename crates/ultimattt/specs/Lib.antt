@@ -1,5 +1,8 @@
 pub mod RoomCases
 pub mod GamesCases
+pub mod BudgetStatement
+pub mod Budgets
+pub mod BudgetCases
 pub mod Cases
 pub mod Exports
 pub mod TwoAnswers

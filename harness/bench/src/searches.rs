@@ -1,6 +1,7 @@
 //! The searches that are run on both sides.
 
 use calls::record::{Position, LENGTH};
+use calls::table::LARGEST_BUDGET;
 use measure::positions::{moves, M1, M2, M4};
 
 /// The largest pool that the library takes; every search is lent this one.
@@ -12,8 +13,8 @@ pub const POOL_WORDS: usize = NODE_WORDS * POOL_NODES;
 pub const RULE: u64 = 0;
 pub const INTERVAL: u64 = 10_000;
 pub const LIMIT: u64 = u64::MAX;
-/// More expansions than any search of a solved ending takes.
-const WHOLE: u64 = 100_000_000;
+/// The largest budget: more expansions than any search of a solved ending takes.
+const WHOLE: u64 = LARGEST_BUDGET;
 
 pub struct Search {
     pub name: &'static str,

@@ -13,7 +13,7 @@ const LINES: [[usize; 3]; 8] = [[0, 1, 2], [3, 4, 5], [6, 7, 8], [0, 3, 6], [1, 
 
 pub const LARGEST_POOL: u64 = 16_777_216;
 pub const LARGEST_INTERVAL: u64 = 1_000_000;
-pub const LARGEST_BUDGET: u64 = 1_000_000_000_000;
+pub const LARGEST_BUDGET: u64 = 3_000_000;
 pub const LARGEST_RULE: u64 = 2;
 /// The most empty cells of boards in play that the referee takes.
 pub const MOST_OPEN_CELLS: usize = 9;

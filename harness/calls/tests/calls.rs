@@ -122,13 +122,14 @@ fn settings_are_checked_in_order() {
     assert_eq!(refusal(3, 0, 0, 0), Some(8));
     assert_eq!(refusal(3, 16_777_217, 0, 0), Some(9));
     assert_eq!(refusal(3, 16_777_216, 0, 1), Some(10));
-    assert_eq!(refusal(2, 1, 1_000_000_000_001, 1), Some(10));
-    assert_eq!(refusal(2, 1, 1_000_000_000_000, 1_000_001), Some(10));
-    assert_eq!(refusal(2, 1, 1_000_000_000_000, 1_000_000), None);
+    assert_eq!([3_000_001, 1_000_000_000_000, u64::MAX].map(|budget| refusal(2, 1, budget, 1)), [Some(10); 3]);
+    assert_eq!(refusal(2, 1, 3_000_000, 1_000_001), Some(10));
+    assert_eq!(refusal(2, 1, 3_000_000, 1_000_000), None);
     assert_eq!(full_refusal(0, 0, 0), Some(8));
     assert_eq!(full_refusal(16_777_217, 0, 0), Some(9));
     assert_eq!(full_refusal(16_777_216, 0, 0), Some(10));
-    assert_eq!(full_refusal(1, 1_000_000_000_000, 1_000_000), None);
+    assert_eq!(full_refusal(1, 3_000_000, 1_000_000), None);
+    assert_eq!(full_refusal(1, 3_000_001, 1_000_000), Some(10));
     assert_eq!(table::referee_refusal(&record, 3), Some(10));
     assert_eq!(table::referee_refusal(&record, 2), Some(16));
     assert_eq!(table::output_refusal(&record, 20, table::RECORD_ROOM), Some(7));

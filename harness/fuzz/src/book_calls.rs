@@ -1,4 +1,5 @@
-//! What the calls of a book are lent, so that a wrong library can do them otherwise (`wrong_books`, `wrong_marks`).
+//! What the calls of a book are lent, so that a wrong library can do them otherwise (`wrong_books`, `wrong_marks`,
+//! `wrong_stay`, `wrong_budgets`).
 
 use calls::book::ENTRY;
 use calls::record::LENGTH;
@@ -113,6 +114,11 @@ impl Asked {
     /// Check 17 fails.
     pub fn is_broken(&self) -> bool {
         !self.length.is_multiple_of(ENTRY) || self.count > self.entries()
+    }
+
+    /// Every entry is used, and none holds the pair.
+    pub unsafe fn is_full(&self) -> bool {
+        !self.is_broken() && self.count == self.entries() && self.places_held().is_empty()
     }
 }
 
@@ -231,4 +237,15 @@ macro_rules! add {
     };
 }
 
-pub(crate) use {add, lookup, publish};
+/// An add that gives this code, where there is one, in the place of another.
+macro_rules! add_code {
+    ($name:ident, |$lent:ident, $code:ident| $other:expr) => {
+        add!($name, |$lent| {
+            let a = $lent.add();
+            let $code = a.code;
+            $other.map_or(a, |code| $lent.refused(code))
+        });
+    };
+}
+
+pub(crate) use {add, add_code, lookup, publish};

@@ -25,6 +25,7 @@ mod watch;
 mod wide;
 mod wrong;
 mod wrong_books;
+mod wrong_budgets;
 mod wrong_games;
 mod wrong_marks;
 mod wrong_stay;
@@ -78,7 +79,8 @@ fn usage() -> ExitCode {
 /// What is wrong with each, and its exports.
 fn wrong_libraries() -> impl Iterator<Item = (&'static str, Exports)> {
     let of_books = wrong_books::ALL.into_iter().chain(wrong_marks::ALL);
-    wrong::ALL.into_iter().chain(of_books).chain(wrong_games::ALL).chain(wrong_stay::ALL)
+    let of_games = wrong_games::ALL.into_iter().chain(wrong_stay::ALL).chain(wrong_budgets::ALL);
+    wrong::ALL.into_iter().chain(of_books).chain(of_games)
 }
 
 /// Runs every wrong library in a process of its own; each must end with a violation.
@@ -121,7 +123,7 @@ fn fuzz(exports: &Exports, seed: u64, count: u64, seconds: u64, a_call: u32) -> 
             println!("{} calls in order (seed {})", tally.values().sum::<u64>(), seed);
             tally.iter().for_each(|(kind, times)| println!("{:>9}  {}", times, kind));
             match wide {
-                Some(wide) => println!("{:>9}  with a length or a count over 4294967296", wide),
+                Some(wide) => println!("{:>9}  with a length, a count or a budget of 4294967296 or more", wide),
                 None => println!("no buffer longer than 4294967296 was lent: the system has not so many addresses"),
             }
             ExitCode::SUCCESS

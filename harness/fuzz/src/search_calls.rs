@@ -1,4 +1,5 @@
-//! What a search and a full verdict are lent, so that a wrong library can do them otherwise (`wrong_stay`).
+//! What a search and a full verdict are lent, so that a wrong library can do them otherwise (`wrong_stay`,
+//! `wrong_budgets`).
 
 use calls::Stay;
 use uttt::ffi;
@@ -35,6 +36,11 @@ impl Asked {
         let Asked { record, n, words, k, limits: [limit, budget, interval], staying, margin, .. } = self;
         ffi::uttt_full_verdict(record, n, words, k, limit, budget, interval, staying, margin)
     }
+}
+
+/// A refusal without a result.
+pub fn refused(code: u32) -> ffi::SearchAnswer {
+    ffi::SearchAnswer { code, index: 0, result: Default::default() }
 }
 
 /// A search that is done otherwise.
@@ -82,4 +88,28 @@ macro_rules! full {
     };
 }
 
-pub(crate) use {full, search};
+/// A search with something done after it.
+macro_rules! search_then {
+    ($name:ident, |$lent:ident, $a:ident| $after:expr) => {
+        search!($name, |$lent| {
+            #[allow(unused_mut)]
+            let mut $a = $lent.search();
+            $after;
+            $a
+        });
+    };
+}
+
+/// A full verdict with something done after it.
+macro_rules! full_then {
+    ($name:ident, |$lent:ident, $a:ident| $after:expr) => {
+        full!($name, |$lent| {
+            #[allow(unused_mut)]
+            let mut $a = $lent.full();
+            $after;
+            $a
+        });
+    };
+}
+
+pub(crate) use {full, full_then, search, search_then};

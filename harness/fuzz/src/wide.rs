@@ -1,4 +1,4 @@
-//! Lengths and counts that 32 bits can't tell: cut to 32 bits they would give another answer. Of a buffer so long the
+//! Lengths, counts and budgets that 32 bits can't tell: cut to 32 bits they would give another answer. Of a buffer so long the
 //! first page can be written, the others only read.
 
 use crate::books::added;
@@ -31,10 +31,12 @@ const DRAWN: &str = "7AB400AC0054001500054000A8002A000A80054000";
 type Tried = (&'static str, (u32, u64), Answered);
 
 /// Tries all; gives how many there were, or none where the system has not so many addresses for the long ones. The
-/// counts are tried there too.
+/// counts and the budgets are tried there too.
 pub fn check(exports: &Exports, seconds: u32) -> Result<Option<usize>, String> {
-    let counts = watch::during("a count over 4294967296", seconds, || large_counts(exports))?;
-    as_due(&counts)?;
+    let numbers = watch::during("a count or a budget of 4294967296 or more", seconds, || {
+        Ok::<Vec<Tried>, String>([large_counts(exports)?, large_budgets(exports)?].concat())
+    })?;
+    as_due(&numbers)?;
     let (Some(mut long), Some(mut longest)) = (Region::new(OVER + LENGTH), Region::new(LENGTH * (OVER + 1))) else {
         return Ok(None);
     };
@@ -50,7 +52,7 @@ pub fn check(exports: &Exports, seconds: u32) -> Result<Option<usize>, String> {
         Ok::<Vec<Tried>, String>(parts.into_iter().flatten().collect())
     })?;
     as_due(&tried)?;
-    Ok(Some(counts.len() + tried.len()))
+    Ok(Some(numbers.len() + tried.len()))
 }
 
 fn as_due(tried: &[Tried]) -> Result<(), String> {
@@ -181,8 +183,7 @@ fn long_books(exports: &Exports, long: &mut Region) -> Result<Vec<Tried>, String
     ])
 }
 
-/// A book of one entry, and a count that cut short would be 1: refused by check 17, and nothing is written. Then shares
-/// that cut short would sum to 0: refused by check 20.
+/// A book of one entry, and a count that cut short would be 1: refused by check 17, and nothing is written.
 fn large_counts(exports: &Exports) -> Result<Vec<Tried>, String> {
     let record = hex::read(DRAWN).expect("hexadecimal");
     let (from, size, mut pool) = (record.as_ptr(), record.len(), [0; NODE_WORDS]);
@@ -190,14 +191,12 @@ fn large_counts(exports: &Exports) -> Result<Vec<Tried>, String> {
     let mut book = held.clone();
     let (at, count, words) = (book.as_mut_ptr(), OVER as u64 + 1, pool.as_mut_ptr());
     // SAFETY: pointers and lengths belong together, and the buffers are apart.
-    let (lookup, publish, add, games) = unsafe {
+    let (lookup, publish, add) = unsafe {
         let lookup = (exports.lookup)(ARBITER, at, ENTRY, count, from, size, RULE);
         let publish = (exports.publish)(ARBITER, at, ENTRY, count, from, size, RULE);
         let add =
             (exports.add)(ARBITER, at, ENTRY, count, from, size, words, NODE_WORDS, RULE, LIMIT, 0, 1, OFF, UNREAD);
-        let shares = SHARES.map(|share| OVER as u64 * share);
-        let games = (exports.games)(from, size, words, NODE_WORDS, &shares, RULE, LIMIT, 0, 1, OFF, UNREAD);
-        (lookup, publish, add, games)
+        (lookup, publish, add)
     };
     if book != held || pool != [0; NODE_WORDS] {
         return Err("a large count: something was written".to_string());
@@ -206,8 +205,35 @@ fn large_counts(exports: &Exports) -> Result<Vec<Tried>, String> {
         ("lookup, count", (17, 0), bare(lookup.code, lookup.index)),
         ("publish, count", (17, 0), bare(publish.code, publish.index)),
         ("add, count", (17, 0), bare(add.code, add.index)),
-        ("games, shares", (20, 0), judged_together(games)),
     ])
+}
+
+/// A budget, a share and an allowance that cut short would be 0: refused by check 10, and nothing is written.
+fn large_budgets(exports: &Exports) -> Result<Vec<Tried>, String> {
+    let record = hex::read(DRAWN).expect("hexadecimal");
+    let (from, size, mut pool, mut book) = (record.as_ptr(), record.len(), [0; NODE_WORDS], [0; ENTRY]);
+    let (at, words, over) = (book.as_mut_ptr(), pool.as_mut_ptr(), OVER as u64);
+    let (shares, none) = (SHARES.map(|share| over * share), [0; MOST_GAMES]);
+    // SAFETY: pointers and lengths belong together, and the buffers are apart.
+    let tried = unsafe {
+        let search = (exports.search)(from, size, words, NODE_WORDS, RULE, LIMIT, over, 1, OFF, UNREAD);
+        let full = (exports.full)(from, size, words, NODE_WORDS, LIMIT, over, 1, OFF, UNREAD);
+        let add =
+            (exports.add)(ARBITER, at, ENTRY, 0, from, size, words, NODE_WORDS, RULE, LIMIT, over, 1, OFF, UNREAD);
+        let share = (exports.games)(from, size, words, NODE_WORDS, &shares, RULE, LIMIT, 0, 1, OFF, UNREAD);
+        let allowance = (exports.games)(from, size, words, NODE_WORDS, &none, RULE, LIMIT, over, 1, OFF, UNREAD);
+        vec![
+            ("search, budget", (10, 0), searched(search)),
+            ("full, budget", (10, 0), judged(full)),
+            ("add, budget", (10, 0), added(add, 0, &[])),
+            ("games, share", (10, 0), judged_together(share)),
+            ("games, allowance", (10, 0), judged_together(allowance)),
+        ]
+    };
+    if book != [0; ENTRY] || pool != [0; NODE_WORDS] {
+        return Err("a large budget: something was written".to_string());
+    }
+    Ok(tried)
 }
 
 /// Whole records of empty games, so many that cut short their bytes would be no multiple of a record's or they would be

@@ -9,7 +9,7 @@ use calls::record::LENGTH;
 use calls::table::{games_refusal, record_refusal, LARGEST_BUDGET, LARGEST_INTERVAL, LARGEST_POOL, LARGEST_RULE};
 use uttt::ffi;
 
-pub const ALL: [(&str, Exports); 45] = [
+pub const ALL: [(&str, Exports); 44] = [
     ("games checks their number before the length", Exports { games: number_first, ..LIBRARY }),
     ("games checks the records before their number", Exports { games: records_first, ..LIBRARY }),
     ("games does not check for over eight", Exports { games: nine, ..LIBRARY }),
@@ -28,7 +28,6 @@ pub const ALL: [(&str, Exports); 45] = [
     ("games refuses shares that sum to the allowance", Exports { games: sum_below, ..LIBRARY }),
     ("games takes shares that sum to one above the allowance", Exports { games: sum_above, ..LIBRARY }),
     ("games checks the sum before the settings", Exports { games: sum_first, ..LIBRARY }),
-    ("games cuts the sum to 32 bits", Exports { games: sum_cut, ..LIBRARY }),
     ("games makes no second pass", Exports { games: one_pass, ..LIBRARY }),
     ("games grants the unspent to the first stopped game alone", Exports { games: first_alone, ..LIBRARY }),
     ("games grants the unspent to every stopped game", Exports { games: to_every_one, ..LIBRARY }),
@@ -156,11 +155,6 @@ games_then!(sum_above, |lent, a| if a.code == 20 && is_one_above(lent) {
 });
 games_then!(sum_first, |lent, a| if a.code == 10 && lent.sum() > u128::from(lent.allowance) {
     a.code = 20;
-});
-games_then!(sum_cut, |lent, a| if a.code == 20 && (1..=MOST_GAMES).contains(&lent.count()) {
-    if u64::from(lent.sum() as u32) <= lent.allowance {
-        a = lent.judge_with([0; MOST_GAMES]);
-    }
 });
 
 games!(one_pass, |lent| lent.judge_by(Passes { goes_on: |_| false, ..AS_DUE }));

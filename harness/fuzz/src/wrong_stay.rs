@@ -1,11 +1,11 @@
 //! Libraries with one thing wrong in staying on a line, as `wrong` has them: the proved exports with another setting, or
 //! with something done after them.
 
-use crate::book_calls::{add, Add, Asked as Pair};
+use crate::book_calls::{add, add_code, Add};
 use crate::exports::{Exports, LIBRARY};
 use crate::game_calls::{games, games_then, refused, Asked as Games};
 use crate::passes::AS_DUE;
-use crate::search_calls::{full, given, search, Asked};
+use crate::search_calls::{self, full, full_then, given, search, search_then, Asked};
 use calls::games::MOST_GAMES;
 use calls::record::{Position, LENGTH};
 use calls::table::finished;
@@ -124,38 +124,14 @@ macro_rules! search_with {
     };
 }
 
-/// A search with something done after it.
-macro_rules! search_then {
-    ($name:ident, |$lent:ident, $a:ident| $after:expr) => {
-        search!($name, |$lent| {
-            #[allow(unused_mut)]
-            let mut $a = $lent.search();
-            $after;
-            $a
-        });
-    };
-}
-
 /// A search that is refused with 21 if the condition holds.
 macro_rules! search_21 {
     ($name:ident, |$lent:ident, $code:ident| $holds:expr) => {
         search_then!($name, |$lent, a| {
             let $code = a.code;
             if $holds {
-                a = ffi::SearchAnswer { code: 21, index: 0, result: Default::default() };
+                a = search_calls::refused(21);
             }
-        });
-    };
-}
-
-/// A full verdict with something done after it.
-macro_rules! full_then {
-    ($name:ident, |$lent:ident, $a:ident| $after:expr) => {
-        full!($name, |$lent| {
-            #[allow(unused_mut)]
-            let mut $a = $lent.full();
-            $after;
-            $a
         });
     };
 }
@@ -168,17 +144,6 @@ macro_rules! games_21 {
             if $holds {
                 a = refused(21, 0);
             }
-        });
-    };
-}
-
-/// An add that gives this code, where there is one, in the place of another.
-macro_rules! add_code {
-    ($name:ident, |$lent:ident, $code:ident| $other:expr) => {
-        add!($name, |$lent| {
-            let a = $lent.add();
-            let $code = a.code;
-            $other.map_or(a, |code| $lent.refused(code))
         });
     };
 }
@@ -242,7 +207,7 @@ games_then!(games_write, |lent, a| if a.code == 21 {
 add_code!(add_before_caller, |lent, code| (code == 19 && lent.is_bad()).then_some(21));
 add_code!(add_before_settings, |lent, code| (code == 10 && lent.is_bad()).then_some(21));
 add_code!(add_after_17, |lent, code| (code == 21 && lent.asked.is_broken()).then_some(17));
-add_code!(add_after_18, |lent, code| (code == 21 && is_full(&lent.asked)).then_some(18));
+add_code!(add_after_18, |lent, code| (code == 21 && lent.asked.is_full()).then_some(18));
 add!(add_held, |lent| {
     let a = lent.add();
     let found = lent.asked.lookup().verdict;
@@ -263,9 +228,4 @@ add!(add_write, |lent| {
 /// There is no game, or there are over eight.
 fn has_no_number(games: &Games) -> bool {
     !(1..=MOST_GAMES).contains(&games.count())
-}
-
-/// Every entry is used, and none holds the pair.
-unsafe fn is_full(pair: &Pair) -> bool {
-    !pair.is_broken() && pair.count == pair.entries() && pair.places_held().is_empty()
 }

@@ -31,14 +31,14 @@ go-on-requires : tie.Need-go-on-requires
 go-on-requires c κs =
     let t = c .before .before in
     let g = t .before .before .before .before .pre in
-    to-go-on (g .stopped) _ (t .if1 .left) (g .ranges) (g .most)
+    to-go-on (g .stopped) _ (t .if1 .left) (g .ranges) (g .countable)
 
 finish-requires-2 : tie.Need-finish-requires-2
 unfolding to-go-on
 finish-requires-2 c κs =
     let r = c .before .before .before .before .before .before in
     let g = call r .pre in
-    let end = r .go-on .ensures (to-go-on (g .stopped) _ (test r .if1 .left) (g .ranges) (g .most)) in
+    let end = r .go-on .ensures (to-go-on (g .stopped) _ (test r .if1 .left) (g .ranges) (g .countable)) in
     (end .going .stands .path-long, (g .start, _, end .going), end .stop)
 
 sub-t24 : tie.Need-sub-t24
@@ -48,7 +48,7 @@ sub-t24 c =
     let r = f .before .before .before .before .before .before .before in
     let a = call r .args in
     let g = call r .pre in
-    let more = to-go-on (g .stopped) (a .unspent) (test r .if1 .left) (g .ranges) (g .most) in
+    let more = to-go-on (g .stopped) (a .unspent) (test r .if1 .left) (g .ranges) (g .countable) in
     result-most (g .start) (withBudget (a .s) (a .s .budget + a .unspent)) (a .words .now) (r .go-on .last .0) (f .finish2 .result) (r .go-on .kept .0)
     (f .finish2 .ensures (g .start) _ (r .go-on .ensures more .going)) (more .ranges)
 
@@ -64,7 +64,7 @@ returns-2 c p h =
     let g = call r .pre in
     passes-on h (a .unspent) (test r .if1 .left) (f .finish2 .result)
     (result-long p (withBudget (a .s) (a .s .budget + a .unspent)) (a .words .now) (r .go-on .last .0) (f .finish2 .result) (r .go-on .kept .0)
-    (f .finish2 .ensures p _ (r .go-on .ensures (to-go-on h (a .unspent) (test r .if1 .left) (g .ranges) (g .most)) .going)))
+    (f .finish2 .ensures p _ (r .go-on .ensures (to-go-on h (a .unspent) (test r .if1 .left) (g .ranges) (g .countable)) .going)))
 
 pub second-spec : {M : Type 1} → statement M
 second-spec = tie.close (tie.spec finish-requires same-length returns add-grant go-on-requires finish-requires-2 sub-t24 same-length-2 returns-2)

@@ -6,7 +6,7 @@ use super::margins::{no_margin, stay};
 use super::positions::{accepted, ending, late};
 use super::random::Random;
 use super::reading::turned;
-use super::settings::{self, Settings};
+use super::settings::{self, Settings, TOO_LARGE};
 use calls::book::{entry, ENTRY, MARK};
 use calls::record::LENGTH;
 use calls::table::{LARGEST_BUDGET, LARGEST_INTERVAL, LARGEST_POOL, LARGEST_RULE};
@@ -184,9 +184,10 @@ fn add_settings(random: &mut Random, rule: u64) -> Settings {
     match random.below(60) {
         0 => settings.pool = 0,
         1 => settings.rule = random.pick(&[3, 4, 64, 256, u64::MAX]),
-        2 => settings.budget = random.pick(&[LARGEST_BUDGET + 1, u64::MAX]),
+        2 => settings.budget = random.pick(&TOO_LARGE),
         3 => settings.interval = random.pick(&[0, LARGEST_INTERVAL + 1, u64::MAX]),
         4 if random.once_in(20) => settings.pool = LARGEST_POOL + 1,
+        5 => settings.budget = LARGEST_BUDGET,
         _ => (),
     }
     settings

@@ -5,7 +5,7 @@ use super::damaged::{any_bytes, damaged_position};
 use super::margins::stay;
 use super::positions::{accepted, ending, late, reached};
 use super::random::Random;
-use super::settings;
+use super::settings::{self, TOO_LARGE};
 use crate::games::lone;
 use crate::load;
 use calls::games::MOST_GAMES;
@@ -104,8 +104,8 @@ fn allowance(random: &mut Random, part: u64) -> u64 {
         9..=13 => random.below(1_500),
         14 if random.once_in(8) => random.below(40_000),
         14 => random.below(6_000),
-        15 if random.once_in(3) => random.pick(&[LARGEST_BUDGET + 1, 1 << 41, u64::MAX]),
-        _ if part <= FEW_NODES => random.pick(&[LARGEST_BUDGET, LARGEST_BUDGET - 1, 1 << 32, 100_000]),
+        15 if random.once_in(3) => random.pick(&TOO_LARGE),
+        _ if part <= FEW_NODES => random.pick(&[LARGEST_BUDGET, LARGEST_BUDGET - 1, 1 << 21, 100_000]),
         _ => 1_000,
     }
 }
@@ -132,7 +132,7 @@ fn shares(random: &mut Random, games: usize, allowance: u64) -> [u64; MOST_GAMES
     let read = &mut shares[..games];
     share_out(random, read, allowance);
     if random.once_in(30) && games > 0 {
-        read[random.index(games)] = random.pick(&[LARGEST_BUDGET + 1, 1 << 63, u64::MAX]);
+        read[random.index(games)] = random.pick(&TOO_LARGE);
     }
     shares
 }

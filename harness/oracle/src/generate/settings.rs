@@ -6,6 +6,10 @@ use super::random::Random;
 use calls::table::{LARGEST_BUDGET, LARGEST_INTERVAL, LARGEST_POOL};
 use calls::Stay;
 
+/// Budgets, shares and allowances that are refused: one too large, one that 32 bits would cut to 0, the largest of a range that
+/// once was, one that 64 bits would sum to 0 with itself, and the largest number.
+pub const TOO_LARGE: [u64; 5] = [LARGEST_BUDGET + 1, 1 << 32, 1_000_000_000_000, 1 << 63, u64::MAX];
+
 pub struct Settings {
     pub rule: u64,
     pub pool: u64,
@@ -82,7 +86,7 @@ fn limit(random: &mut Random) -> u64 {
 
 fn budget(random: &mut Random) -> u64 {
     match random.below(20) {
-        0 => random.pick(&[LARGEST_BUDGET + 1, u64::MAX]),
+        0 => random.pick(&TOO_LARGE),
         1 => random.pick(&[0, 1, 2, LARGEST_BUDGET]),
         2..=4 => random.below(12),
         5..=8 => random.below(300),
