@@ -1,5 +1,6 @@
 //! Calls to try: the generator's, the same with bytes and settings damaged, and bytes at random.
 
+use calls::games::MOST_GAMES;
 use calls::table::{LARGEST_BUDGET, LARGEST_POOL};
 use calls::{BookCall, Call, Games, Kind, Stay, Who};
 use oracle::generate::{self, Random};
@@ -26,6 +27,7 @@ pub fn list(random: &mut Random) -> Vec<Call> {
             _ => (),
         }
         bound(call);
+        enlarge(random, call);
     }
     list
 }
@@ -198,6 +200,28 @@ fn bound(call: &mut Call) {
     }
     if let Call::Games(games) = call {
         bound_games(games);
+    }
+}
+
+/// Now and then the largest budget or one more, or the largest allowance and share, where there are few nodes.
+fn enlarge(random: &mut Random, call: &mut Call) {
+    if !random.once_in(8) {
+        return;
+    }
+    match call {
+        Call::Search { pool, budget, .. }
+        | Call::Full { pool, budget, .. }
+        | Call::Book(BookCall::Add { pool, budget, .. })
+            if *pool <= FEW_NODES =>
+        {
+            *budget = LARGEST_BUDGET + random.below(2);
+        }
+        Call::Games(games) if games.part() <= FEW_NODES => {
+            games.allowance = LARGEST_BUDGET;
+            games.shares = [0; MOST_GAMES];
+            games.shares[0] = LARGEST_BUDGET;
+        }
+        _ => (),
     }
 }
 

@@ -187,7 +187,7 @@ fn add_settings(random: &mut Random, rule: u64) -> Settings {
         2 => settings.budget = random.pick(&TOO_LARGE),
         3 => settings.interval = random.pick(&[0, LARGEST_INTERVAL + 1, u64::MAX]),
         4 if random.once_in(20) => settings.pool = LARGEST_POOL + 1,
-        5 => settings.budget = LARGEST_BUDGET,
+        5..=8 => settings.budget = LARGEST_BUDGET,
         _ => (),
     }
     settings

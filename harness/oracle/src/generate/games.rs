@@ -131,10 +131,21 @@ fn shares(random: &mut Random, games: usize, allowance: u64) -> [u64; MOST_GAMES
     let mut shares = [(); MOST_GAMES].map(|()| past(random));
     let read = &mut shares[..games];
     share_out(random, read, allowance);
+    if allowance == LARGEST_BUDGET && random.aside().once_in(3) {
+        all_to_one(read);
+    }
     if random.once_in(30) && games > 0 {
         read[random.index(games)] = random.pick(&TOO_LARGE);
     }
     shares
+}
+
+/// The largest share, for the first game.
+fn all_to_one(shares: &mut [u64]) {
+    shares.fill(0);
+    if let Some(share) = shares.first_mut() {
+        *share = LARGEST_BUDGET;
+    }
 }
 
 /// A share that is not read.
