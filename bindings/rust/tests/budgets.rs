@@ -31,7 +31,8 @@ fn searches() {
 #[test]
 fn adds() {
     let drawn = d(FREE_CHOICE);
-    let add = |book: &mut Book, who, expansions| book.add(who, &drawn, &mut pool(1), Rule::DrawFalse, &budget(expansions));
+    let add =
+        |book: &mut Book, who, expansions| book.add(who, &drawn, &mut pool(1), Rule::DrawFalse, &budget(expansions));
     for over in OVER {
         let held = used(&[entry(&drawn, Rule::DrawFalse, FALSE)]);
         for book in [Book::new(1), held, Book::new(0), Book::from_bytes(vec![0; 21], 0)] {

@@ -1,13 +1,16 @@
 -- What the checks of a search tell: one that is not refused has a record that loads and numbers within their ranges, and that is what the search asks for.
 -- Rests on Searches, calls' Refusing and pn's Searchable.
 use mathlib.Core.Path.{_≡_, sym, _∙_}
-use mathlib.Core.List.{List}
+use mathlib.Core.Bool.{not}
+use mathlib.Core.List.{List, [], _∷_}
 use Prim.Native.Nat.{ℕ, _≤_}
 use native.Mathlib.Omega.{arith}
 use borrow.Author.Tests.{le-ltb}
+use lib.Dec.{ltb}
 use lib.ListN.{length}
 use Rattle.rules.specs.Record.{positionOf, refusal, Accepted}
 use Rattle.rules.specs.Checks.{loads, loads-accepted}
+use Rattle.rules.specs.Refusals.{refuses, firstRefusal}
 use Rattle.rules.specs.RefusalLaws.{none-refuses, passes-need}
 use Rattle.game.specs.Words.{Holds}
 use Rattle.machine.specs.Reached.{PoolInRange}
@@ -15,10 +18,10 @@ use Rattle.plain.specs.Plain.{plainSearch}
 use Rattle.pn.specs.Searches.{Searchable}
 use Rattle.pn.specs.Results.{resultOf}
 use Rattle.pn.specs.declared.SearchResult.{SearchResult}
-use Rattle.stay.specs.Margin.{StayInRange}
+use Rattle.stay.specs.Margin.{stayInRange, StayInRange}
 use Rattle.calls.specs.Calls.{lastRule}
 use Rattle.calls.specs.Refusing.{passes-test}
-use Rattle.searches.specs.Searches.{Limits, intervalLeast, intervalMost, budgetMost, nodes, settings, searchRefusal, Untouched}
+use Rattle.searches.specs.Searches.{Limits, poolLeast, poolMost, intervalLeast, intervalMost, budgetMost, nodes, settings, searchRefusal, Untouched}
 
 pub record Accepts (bytes : List ℕ) (words rule : ℕ) (L : Limits) : Type 0 where
   pub loads : refusal bytes ≡ 0
@@ -48,6 +51,21 @@ accepts bytes words rule L e =
       budget-most = budget-most .0;
       stay-in-range = passes-need 20 _ (none-refuses _ _ (budget-most .1) .0);
     }
+
+-- the checks, each with the number that the code has for it
+pub accept-code : (bytes : List ℕ) (capacity rule : ℕ) (L : Limits) {record-code pool-none pool-over rule-over interval-under interval-over budget-over margin-none n : ℕ}
+    → record-code ≡ refusal bytes
+    → pool-none ≡ refuses 8 (ltb capacity poolLeast)
+    → pool-over ≡ refuses 9 (ltb poolMost capacity)
+    → rule-over ≡ refuses 10 (ltb lastRule rule)
+    → interval-under ≡ refuses 10 (ltb (L .interval) intervalLeast)
+    → interval-over ≡ refuses 10 (ltb intervalMost (L .interval))
+    → budget-over ≡ refuses 10 (ltb budgetMost (L .budget))
+    → margin-none ≡ refuses 21 (not (stayInRange (L .stay)))
+    → n ≡ firstRefusal (record-code ∷ pool-none ∷ pool-over ∷ rule-over ∷ interval-under ∷ interval-over ∷ budget-over ∷ margin-none ∷ [])
+    → n ≡ searchRefusal bytes capacity rule L
+unfolding searchRefusal
+accept-code bytes capacity rule L a b c d e f g h i = rw (i, a, b, c, d, e, f, g, h)
 
 -- the checks of a pool whose capacity has been counted
 pub of-pool : (bytes : List ℕ) (capacity words rule : ℕ) (L : Limits) (n : ℕ) → n ≡ searchRefusal bytes capacity rule L → capacity ≡ nodes words

@@ -1,7 +1,9 @@
 -- `searches::accept` meets its contract, check by check: the places are named from the last check back to the record's. Assumes nothing.
-use mathlib.Core.Path.{sym, _∙_}
+use mathlib.Core.Path.{sym, ap, _∙_}
+use mathlib.Core.Bool.{not}
+use Rattle.rules.specs.Refusals.{refuses}
 use Rattle.rules.specs.RefusalLaws.{none-refuses}
-use Rattle.searches.specs.Searches.{searchRefusal}
+use Rattle.searches.specs.Accepting.{accept-code}
 use borrow.Author.Needs.{needs}
 use Rattle.searches.proofs.accept.Statement.{statement}
 use Rattle.searches.proofs.accept.Tie as tie
@@ -40,7 +42,6 @@ first-requires : tie.Need-first-requires
 first-requires c κs = search needs
 
 returns : tie.Need-returns
-unfolding searchRefusal
 returns c =
     let stay-in-range = c .before .before in
     let tested = stay-in-range .before in
@@ -51,18 +52,16 @@ returns c =
     let pool-most = rule-most .before in
     let pool-least = pool-most .before in
     let loaded = pool-least .before .before in (
-      rw (
-        c .first .ensures,
-        loaded .load .ensures .0,
-        pool-least .refuses .ensures,
-        pool-most .refuses2 .ensures,
-        rule-most .refuses3 .ensures,
-        interval-least .refuses4 .ensures,
-        interval-most .refuses5 .ensures,
-        budget-most .refuses6 .ensures,
-        stay-in-range .refuses7 .ensures,
-        tested .in-range .ensures,
-      ),
+      accept-code _ _ _ _
+          (loaded .load .ensures .0)
+          (pool-least .refuses .ensures)
+          (pool-most .refuses2 .ensures)
+          (rule-most .refuses3 .ensures)
+          (interval-least .refuses4 .ensures)
+          (interval-most .refuses5 .ensures)
+          (budget-most .refuses6 .ensures)
+          (stay-in-range .refuses7 .ensures ∙ ap (λ b. refuses 21 (not b)) (tested .in-range .ensures))
+          (c .first .ensures),
       λ z. loaded .load .ensures .1 (none-refuses _ _ (sym (c .first .ensures) ∙ z) .0),
     )
 
