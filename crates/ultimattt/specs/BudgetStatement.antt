@@ -37,23 +37,23 @@ pub record BudgetStatement : Type 0 where
   -- 3,000,000 is the largest budget:
   pub largest : budgetMost ≡ 3000000
   -- in searches, which are those of search, full verdict and add. Up to it the checks come out as with a budget of 0;
-  pub budget-within : (bytes : List ℕ) (capacity rule : ℕ) (L : Limits) → L .budget ≤ 3000000 → searchRefusal bytes capacity rule L ≡ searchRefusal bytes capacity rule (withoutBudget L)
+  pub budget-within : (bytes : List ℕ) (capacity rule : ℕ) (L : Limits) → L .budget ≤ budgetMost → searchRefusal bytes capacity rule L ≡ searchRefusal bytes capacity rule (withoutBudget L)
   -- and in shares and allowance. Up to it the checks come out as with no share and an allowance of 0, and then comes the sum of the shares.
-  pub shares-within : (capacity n : ℕ) (shares : List ℕ) (C : Common) → ((i : ℕ) → i < n → getD shares i 0 ≤ 3000000) → C .allowance ≤ 3000000
+  pub shares-within : (capacity n : ℕ) (shares : List ℕ) (C : Common) → ((i : ℕ) → i < n → getD shares i 0 ≤ budgetMost) → C .allowance ≤ budgetMost
       → settingsRefusal capacity n (sharesOf shares n) C ≡ firstRefusal (settingsRefusal capacity n [] (withoutAllowance C) ∷ refuses 20 (ltb (C .allowance) (total (sharesOf shares n))) ∷ [])
   -- 3,000,001, and any number above it, is answered by 10 unless an earlier check refuses the call; by no later check. So a search, a full verdict, an arbiter's add,
-  pub search-over : (bytes : List ℕ) (words rule : ℕ) (L : Limits) → 3000000 < L .budget → searchCall bytes words rule L ≡ Refused (upToTen bytes (nodes words))
-  pub full-over : (bytes : List ℕ) (words : ℕ) (L : Limits) → 3000000 < L .budget → fullCall bytes words L ≡ Turned (upToTen bytes (nodes words))
-  pub add-over : (bytes : List ℕ) (words rule : ℕ) (L : Limits) (B : Book) → 3000000 < L .budget → addCall Arbiter bytes words rule L B ≡ refused B (upToTen bytes (nodes words))
+  pub search-over : (bytes : List ℕ) (words rule : ℕ) (L : Limits) → budgetMost < L .budget → searchCall bytes words rule L ≡ Refused (upToTen bytes (nodes words))
+  pub full-over : (bytes : List ℕ) (words : ℕ) (L : Limits) → budgetMost < L .budget → fullCall bytes words L ≡ Turned (upToTen bytes (nodes words))
+  pub add-over : (bytes : List ℕ) (words rule : ℕ) (L : Limits) (B : Book) → budgetMost < L .budget → addCall Arbiter bytes words rule L B ≡ refused B (upToTen bytes (nodes words))
   -- the share of one of the games, and the allowance.
-  pub share-over : (bytes shares : List ℕ) (C : Common) (words i : ℕ) → i < games bytes → 3000000 < getD shares i 0 → gamesCall bytes words shares C .number ≡ gamesUpToTen bytes (nodes words)
-  pub allowance-over : (bytes shares : List ℕ) (C : Common) (words : ℕ) → 3000000 < C .allowance → gamesCall bytes words shares C .number ≡ gamesUpToTen bytes (nodes words)
+  pub share-over : (bytes shares : List ℕ) (C : Common) (words i : ℕ) → i < games bytes → budgetMost < getD shares i 0 → gamesCall bytes words shares C .number ≡ gamesUpToTen bytes (nodes words)
+  pub allowance-over : (bytes shares : List ℕ) (C : Common) (words : ℕ) → budgetMost < C .allowance → gamesCall bytes words shares C .number ≡ gamesUpToTen bytes (nodes words)
   -- What a game is granted is at most the allowance, in the second pass too: a budget that is never out of its range.
   pub grant-within : (bytes shares : List ℕ) (C : Common) (words i : ℕ) → gamesCall bytes words shares C .number ≡ 0 → i < games bytes
-      → (grantOfGame bytes shares C words i ≤ C .allowance) × (C .allowance ≤ 3000000)
+      → (grantOfGame bytes shares C words i ≤ C .allowance) × (C .allowance ≤ budgetMost)
   -- What is said of a search with a budget of N or more is said of N up to 3,000,000 alone;
   pub N-within : (bytes : List ℕ) (words rule : ℕ) (L : Limits) (r : Result) → searchCall bytes words rule L ≡ Answered r → recordSequences bytes ≤ L .budget
-      → recordSequences bytes ≤ 3000000
+      → recordSequences bytes ≤ budgetMost
   -- and for these the largest budget is enough, where pool and limit are N or more.
-  pub enough : (bytes : List ℕ) (words rule limit interval : ℕ) (y : Stay) (r : Result) → searchCall bytes words rule (limits limit 3000000 interval y) ≡ Answered r
-      → recordSequences bytes ≤ 3000000 → recordSequences bytes ≤ nodes words → recordSequences bytes ≤ limit → r .verdict ≡ Unknown → ⊥
+  pub enough : (bytes : List ℕ) (words rule limit interval : ℕ) (y : Stay) (r : Result) → searchCall bytes words rule (limits limit budgetMost interval y) ≡ Answered r
+      → recordSequences bytes ≤ budgetMost → recordSequences bytes ≤ nodes words → recordSequences bytes ≤ limit → r .verdict ≡ Unknown → ⊥
