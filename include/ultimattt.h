@@ -153,8 +153,8 @@ enum uttt_cause {
 #define UTTT_POOL_MOST 16777216
 
 /*
- * Ranges: budget, share, allowance 0 to the most; interval 1 to the most; limit any number, UINT64_MAX for none. Some
- * positions take more than the largest budget: a search that it stops is Unknown.
+ * Ranges: budget, share, allowance 0 to the most; interval 1 to the most; limit any number, UINT64_MAX for none. A
+ * search that its budget stops is Unknown, with the largest too.
  */
 #define UTTT_BUDGET_MOST UINT64_C(3000000)
 #define UTTT_INTERVAL_MOST 1000000

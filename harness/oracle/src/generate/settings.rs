@@ -6,8 +6,8 @@ use super::random::Random;
 use calls::table::{LARGEST_BUDGET, LARGEST_INTERVAL, LARGEST_POOL};
 use calls::Stay;
 
-/// Budgets, shares and allowances that are refused: one too large, one that 32 bits would cut to 0, the largest of a range that
-/// once was, one that 64 bits would sum to 0 with itself, and the largest number.
+/// Budgets, shares and allowances that are refused: one too large, one that 32 bits would cut to 0, the largest of a
+/// range that once was, one that 64 bits would sum to 0 with itself, and the largest number.
 pub const TOO_LARGE: [u64; 5] = [LARGEST_BUDGET + 1, 1 << 32, 1_000_000_000_000, 1 << 63, u64::MAX];
 
 pub struct Settings {
