@@ -96,12 +96,13 @@ bench-stay: library
 bindings-test: library
 	$(CARGO) test --manifest-path bindings/rust/Cargo.toml --offline --locked -j $(JOBS)
 
-# The example programs, built and run: without a record (W of the manual), on D, on E, on D with target 0. Both have to say what is stored.
+# The example programs, built and run: without a record (W of the manual), on D, on E, on D with target 0, on FA. Both have to say what is stored.
 EXAMPLES = target/examples/adjudicate examples/rust/target/release/adjudicate
 EXAMPLE_RECORDS = \
 	7AB400AC0054001500054000A8002A000A80054000 \
 	780000000000000000000000000000000000000000 \
-	02B400AC0054001500054000A8002A000A80054000
+	02B400AC0054001500054000A8002A000A80054000 \
+	FA0000000000000000000000000000000000000000
 
 examples: library
 	@mkdir -p target/examples

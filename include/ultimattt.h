@@ -17,7 +17,7 @@
  * call checks (the table below the codes). With a refusal no byte of any buffer is written and every other field is 0
  * but two: index, and the count of an add, which is then the one that came in. So verdict, cause and published mean
  * nothing with a refusal. index is the place, from 0, of the bad move with codes 11 to 15, of the game whose record is
- * refused with codes 2 to 6 of uttt_judge_games, and 0 elsewhere.
+ * refused with codes 2 to 6 and 22 of uttt_judge_games, and 0 elsewhere.
  *
  * uttt_agreed_opening returns a length and no struct: its code goes to the uint32_t that the caller lends as number.
  * That is no buffer but the call's answer: it is written always, with a refusal too, and never read. The pointer may
@@ -83,25 +83,25 @@ enum uttt_code {
     UTTT_BOOK_FULL = 18,        /* add: every entry of the book is used, and none holds the pair */
     UTTT_TRAINER_WRITES = 19,   /* add, publish: the caller is a trainer, who may only look up; ahead of all others */
     UTTT_GAMES_OR_SHARES = 20,  /* games: there is none, or over eight; or their shares sum above the allowance */
-    UTTT_MARGIN = 21            /* the margin is not a whole multiple of 1/256 from 0 to 1 */
+    UTTT_MARGIN = 21,           /* the margin is not a whole multiple of 1/256 from 0 to 1 */
+    UTTT_IMPOSSIBLE_CHOICE = 22 /* free choice, though a cell is taken and no board is done */
 };
 
 /*
  * The order in which each call checks. It is answered by the first check that refuses.
  *
- *   replay           1 to 6, 7, then 11 to 15 of each move in turn
- *   legal moves      1 to 6, 7
- *   referee          1 to 6, 10 (rule), 16
+ *   replay           1 to 6, 22, 7, then 11 to 15 of each move in turn
+ *   legal moves      1 to 6, 22, 7
+ *   referee          1 to 6, 22, 10 (rule), 16
  *   agreed opening   7
- *   search           1 to 6, 8, 9, 10, 21
- *   full verdict     1 to 6, 8, 9, 10 (interval and budget), 21
- *   games            1, 20 (number of games), 2 to 6 of the records, 8 (a part), 9 (the whole pool), 10, 21,
- *                    20 (shares)
- *   lookup           1 to 6, 10 (rule), 17
- *   add              19, 1 to 6, 8, 9, 10, 21, 17, 18
- *   publish          19, 1 to 6, 10 (rule), 17
+ *   search           1 to 6, 22, 8, 9, 10, 21
+ *   full verdict     1 to 6, 22, 8, 9, 10 (interval and budget), 21
+ *   games            1, 20 (number), 2 to 6 and 22 of the records, 8 (a part), 9 (whole pool), 10, 21, 20 (shares)
+ *   lookup           1 to 6, 22, 10 (rule), 17
+ *   add              19, 1 to 6, 22, 8, 9, 10, 21, 17, 18
+ *   publish          19, 1 to 6, 22, 10 (rule), 17
  *
- * Games checks every record, in their order, for 2 before it checks any for 3, and so on to 6.
+ * Games checks every record, in their order, for 2 before it checks any for 3, and so on to 6 and 22.
  */
 
 /*
@@ -189,7 +189,7 @@ enum uttt_cause {
  *
  * A record and a rule are a pair. A used entry holds it if it has both, and verdict 1 or 2. In a book that was empty
  * and that adds and publishes alone have written, a verdict is the position's value under the rule. Whether one from
- * elsewhere is true is not checked.
+ * elsewhere is true is not checked. An entry whose record is refused stays in its place and counts as used.
  *
  * Who is calling. The calls of a book begin with trainer: false for an arbiter, true for a trainer. The library can't
  * check that. An arbiter looks up, adds and publishes, and reads the first entry that holds the pair,
@@ -265,7 +265,7 @@ struct uttt_full_answer {
 
 struct uttt_games_answer {
     uint32_t code;
-    uint64_t index;                              /* the game whose record is refused with codes 2 to 6, else 0 */
+    uint64_t index;                              /* the game whose record is refused with codes 2 to 6 and 22, else 0 */
     uint64_t count;                              /* how many games there are; 0 with a refusal */
     struct uttt_result results[UTTT_GAMES_MOST]; /* one for each game, in their order; zeros past the count */
 };

@@ -31,6 +31,7 @@ static const char *const refusals[] = {
     [UTTT_POOL_TOO_LARGE] = "the pool has more than 16,777,216 nodes",
     [UTTT_SETTING_RANGE] = "the interval or the budget is out of its range",
     [UTTT_MARGIN] = "the margin is not a whole multiple of 1/256 from 0 to 1",
+    [UTTT_IMPOSSIBLE_CHOICE] = "free choice, though no board is done",
 };
 
 /* Reads the digits into 21 bytes; 0 if they are not 42 hexadecimal digits. */

@@ -54,8 +54,10 @@ pub enum Refusal {
     SharesOverAllowance,
     /// 21: the margin is not a whole multiple of 1/256 from 0 to 1.
     Margin,
-    /// 2 to 6 where games are judged: the game's index, and what is wrong with its record, one of the five from
-    /// [`Refusal::RecordBits`] to [`Refusal::TargetDone`].
+    /// 22: the choice is free, though a cell is taken and no board is done. It comes after 6 and ahead of 7.
+    ImpossibleChoice,
+    /// 2 to 6 and 22 where games are judged: the game's index, and what is wrong with its record, one of the five from
+    /// [`Refusal::RecordBits`] to [`Refusal::TargetDone`] or [`Refusal::ImpossibleChoice`].
     InGame(usize, &'static Refusal),
 }
 
@@ -89,6 +91,7 @@ impl Refusal {
             18 => Refusal::BookFull,
             19 => Refusal::TrainerWrites,
             21 => Refusal::Margin,
+            22 => Refusal::ImpossibleChoice,
             _ => crate::answer::unnamed("code", code),
         })
     }
@@ -97,13 +100,14 @@ impl Refusal {
     pub(crate) fn check_games(code: u32, index: u64, games: usize) -> Result<(), Refusal> {
         Err(match code {
             2..=6 => Refusal::InGame(index as usize, &OF_A_RECORD[code as usize - 2]),
+            22 => Refusal::InGame(index as usize, &Refusal::ImpossibleChoice),
             20 if !(1..=GAMES_MOST).contains(&games) => Refusal::GameCount,
             20 => Refusal::SharesOverAllowance,
             _ => return Refusal::check(code, index),
         })
     }
 
-    /// The number in the table of refusals, 1 to 21.
+    /// The number in the table of refusals, 1 to 22.
     pub fn number(self) -> u32 {
         match self {
             Refusal::RecordLength => 1,
@@ -127,6 +131,7 @@ impl Refusal {
             Refusal::TrainerWrites => 19,
             Refusal::GameCount | Refusal::SharesOverAllowance => 20,
             Refusal::Margin => 21,
+            Refusal::ImpossibleChoice => 22,
             Refusal::InGame(_, fault) => fault.number(),
         }
     }
@@ -172,6 +177,7 @@ impl Refusal {
             Refusal::GameCount => "there is no game to judge, or there are over eight",
             Refusal::SharesOverAllowance => "the shares of the games sum above the allowance",
             Refusal::Margin => "the margin is not a whole multiple of 1/256 from 0 to 1",
+            Refusal::ImpossibleChoice => "free choice, though no board is done",
             Refusal::InGame(_, fault) => fault.words(),
         }
     }

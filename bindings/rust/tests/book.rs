@@ -167,12 +167,12 @@ fn a_full_book() {
 fn refused_records_in_a_broken_book() {
     let mut book = Book::from_bytes(vec![FILL; 23], 7);
     let (mut none, late) = (Pool::from_words(vec![]), Settings { interval: 0, ..budget(1) });
-    for (record, number) in refused_records().iter().zip(1..) {
+    for (record, number) in &refused_records() {
         for who in [Arbiter, Trainer] {
-            assert_eq!(book.lookup(who, record, Rule::DrawFalse).unwrap_err().number(), number);
+            assert_eq!(book.lookup(who, record, Rule::DrawFalse).unwrap_err().number(), *number);
         }
-        assert_eq!(book.add(Arbiter, record, &mut none, Rule::DrawFalse, &late).unwrap_err().number(), number);
-        assert_eq!(book.publish(Arbiter, record, Rule::DrawFalse).unwrap_err().number(), number);
+        assert_eq!(book.add(Arbiter, record, &mut none, Rule::DrawFalse, &late).unwrap_err().number(), *number);
+        assert_eq!(book.publish(Arbiter, record, Rule::DrawFalse).unwrap_err().number(), *number);
     }
     assert_eq!((book.count(), book.bytes()), (7, &[FILL; 23][..]));
 }

@@ -204,6 +204,7 @@ fn refusals() {
         ("GAMES_OR_SHARES", Refusal::GameCount),
         ("GAMES_OR_SHARES", Refusal::SharesOverAllowance),
         ("MARGIN", Refusal::Margin),
+        ("IMPOSSIBLE_CHOICE", Refusal::ImpossibleChoice),
     ];
     for (name, refusal) in named {
         assert_eq!(number(name), u64::from(refusal.number()), "{name}");

@@ -81,7 +81,7 @@ fn length_of_the_records() {
 /// In any number of games, wherever the refused one stands.
 #[test]
 fn a_refused_record_is_named_by_its_game() {
-    for (record, number) in refused_records()[1..].iter().zip(2..) {
+    for (record, number) in refused_records()[1..].iter().map(|(record, number)| (record, *number)) {
         for (count, at) in (1..=GAMES_MOST).flat_map(|count| (0..count).map(move |at| (count, at))) {
             let mut records = games(count);
             records[at] = record.clone();
@@ -95,7 +95,7 @@ fn a_refused_record_is_named_by_its_game() {
     }
 }
 
-/// The number of the check that refuses each record, 0 if none does; the least number, then the first game of it.
+/// Of the checks' numbers, 0 where none refuses the record, the least, then the first game of it.
 fn due(numbers: &[u32]) -> (u32, u64) {
     let number = *numbers.iter().filter(|number| **number > 0).min().expect("a refused record");
     (number, numbers.iter().position(|n| *n == number).expect("its game") as u64)
@@ -104,14 +104,14 @@ fn due(numbers: &[u32]) -> (u32, u64) {
 #[test]
 fn earliest_check_then_lowest_game() {
     let mut records = refused_records();
-    records[0] = w().to_vec();
-    let number = |kind: usize| if kind == 0 { 0 } else { kind as u32 + 1 };
-    for kinds in (1..6 * 6 * 6).map(|n| [n / 36, n / 6 % 6, n % 6]) {
-        let three = kinds.map(|kind| records[kind].clone());
-        assert_eq!(refused(&three.concat(), 500, 1, &usual()), due(&kinds.map(number)), "{kinds:?}");
+    records[0] = (w().to_vec(), 0);
+    for kinds in (1..7 * 7 * 7).map(|n| [n / 49, n / 7 % 7, n % 7]) {
+        let three = kinds.map(|kind| records[kind].0.clone());
+        let numbers = kinds.map(|kind| records[kind].1);
+        assert_eq!(refused(&three.concat(), 500, 1, &usual()), due(&numbers), "{kinds:?}");
     }
-    let kinds = [0, 5, 4, 0, 3, 2, 3, 2];
-    let eight = kinds.map(|kind| records[kind].clone());
+    let kinds = [6, 5, 4, 0, 3, 2, 3, 2];
+    let eight = kinds.map(|kind| records[kind].0.clone());
     assert_eq!(refused(&eight.concat(), 500, 1, &usual()), (3, 5));
     assert_eq!(judged(&eight, &usual()), Err(Refusal::InGame(5, &Refusal::CellCounts)));
 }
@@ -191,12 +191,12 @@ fn order_of_the_checks() {
     let late = GamesSettings { interval: 0, ..bad };
     let mut records = vec![[0xFF; 22].to_vec(); 9];
     assert_eq!(refused(&records.concat(), 4, 3, &late), (1, 0));
-    records = vec![refusals[1].clone(); 9];
+    records = vec![refusals[1].0.clone(); 9];
     assert_eq!(refused(&records.concat(), 4, 3, &late), (20, 0));
     assert_eq!(refused(&[], 0, 3, &late), (20, 0));
-    for (record, number) in refusals[1..].iter().zip(2..) {
+    for (record, number) in &refusals[1..] {
         records = [w().to_vec(), E.to_vec(), record.clone()].to_vec();
-        assert_eq!(refused(&records.concat(), 4, 3, &late), (number, 2));
+        assert_eq!(refused(&records.concat(), 4, 3, &late), (*number, 2));
     }
     let accepted = eight().concat();
     assert_eq!(refused(&accepted, 39, 3, &late), (8, 0));

@@ -52,6 +52,8 @@ fn one_mark_more() {
     let (mut x_to_move, mut o_to_move) = (E, E);
     (x_to_move[0], o_to_move[0]) = (0x7A, 0xFA);
     assert_eq!(replay(&x_to_move, &[]), Err(Refusal::CellCounts));
+    assert_eq!(replay(&o_to_move, &[]), Err(Refusal::ImpossibleChoice));
+    o_to_move[0] = 0x82;
     assert_eq!(replay(&o_to_move, &[]), Ok(o_to_move));
 }
 

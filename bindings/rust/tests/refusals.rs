@@ -47,6 +47,8 @@ fn records() {
     let words = "both sides have a line of boards, or the side to move has one";
     refused(replay(&won, &[]), Refusal::GameWonWrongly, 5, words);
     refused(replay(&d(0), &[]), Refusal::TargetDone, 6, "the target is a board that is won or drawn");
+    let choice = x_to_move(FREE_CHOICE, &[(&[0], &[0], X), (&[0], &[1], O)]);
+    refused(replay(&choice, &[]), Refusal::ImpossibleChoice, 22, "free choice, though no board is done");
 }
 
 #[test]
@@ -141,7 +143,7 @@ fn games() {
     let shares = "the shares of the games sum above the allowance";
     refused(judged(&[w(); 2].concat(), 90), Refusal::SharesOverAllowance, 20, shares);
     refused(judged(&[w(); 3].concat(), 2), Refusal::PoolEmpty, 8, NO_NODE);
-    for record in &refused_records()[1..] {
+    for (record, _) in &refused_records()[1..] {
         let fault = replay(record, &[]).unwrap_err();
         let found = judged(&[&w(), &E, &record[..]].concat(), 90).unwrap_err();
         assert_eq!((found.number(), found.index()), (fault.number(), Some(2)));
@@ -169,6 +171,7 @@ fn index_with_moves_and_games_alone() {
     assert_eq!(Refusal::TrainerWrites.index(), None);
     assert_eq!(Refusal::GameCount.index(), None);
     assert_eq!(Refusal::Margin.index(), None);
+    assert_eq!(Refusal::ImpossibleChoice.index(), None);
 }
 
 /// The first check in the call's order is the answer, whatever else is wrong.

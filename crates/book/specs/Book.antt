@@ -58,7 +58,7 @@ unsearched B a = bookOutcome 0 0 a false B
 abbrev pub searching : Book → ℕ → BookOutcome
 searching B a = bookOutcome 0 0 a true B
 
--- Lookup: checks 1 to 6, 10 of the rule, and 17. The verdict that the caller finds, or 0: not held.
+-- Lookup: the checks of the record, 10 of the rule, and 17. The verdict that the caller finds, or 0: not held.
 unfoldable pub lookupRefusal : (bytes : List ℕ) (rule : ℕ) → Book → ℕ
 lookupRefusal bytes rule B = firstRefusal (refusal bytes ∷ refuses 10 (ltb lastRule rule) ∷ refuses 17 (broken B) ∷ [])
 

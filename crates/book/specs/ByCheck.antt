@@ -9,7 +9,7 @@ use borrow.Author.Tests.{ne-eqb, le-leb, lt-leb, le-ltb, lt-ltb}
 use lib.Dec.{ltb}
 use lib.ListN.{length}
 use Rattle.rules.specs.Record.{positionOf, refusal}
-use Rattle.rules.specs.Checks.{loads}
+use Rattle.rules.specs.Checks.{loads-length}
 use Rattle.rules.specs.Refusals.{refuses, firstRefusal}
 use Rattle.game.specs.Words.{Holds}
 use Rattle.machine.specs.Machine.{Verdict, True, False, Unknown}
@@ -38,7 +38,7 @@ abbrev ToFind : (bytes : List ℕ) → Book → Type 0
 ToFind bytes B = (length bytes ≡ 21) × (B .count * 22 ≤ length (B .bytes))
 
 to-find : (bytes : List ℕ) (B : Book) → refusal bytes ≡ 0 → Fits B → ToFind bytes B
-to-find bytes B e f = (loads bytes e .bytes, omega (arith, f .within))
+to-find bytes B e f = (loads-length bytes e, omega (arith, f .within))
 
 -- a lookup
 module _ (bytes : List ℕ) (rule : ℕ) (B : Book) where

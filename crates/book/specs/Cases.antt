@@ -5,7 +5,7 @@ use mathlib.Core.List.{List, [], _∷_, _++_}
 use Prim.Native.Nat.{ℕ}
 use lib.ListN.{replicate}
 use Rattle.rules.specs.Rules.{hasLine, state, board, boardStates, gameState}
-use Rattle.rules.specs.Record.{bitAt, positionOf, positionRefusal, refusal}
+use Rattle.rules.specs.Record.{bitAt, positionOf, positionRefusal, refusalTo6, impossibleChoice, refusal}
 use Rattle.rules.specs.Refusals.{firstRefusal}
 use Rattle.plain.specs.Cases.{E, W, D, starred}
 use Rattle.searches.specs.Searches.{Limits, searchRefusal}
@@ -98,7 +98,8 @@ pub record BookCases : Type 0 where
   pub list : afterCalls (Add Arbiter D (pool 3276) 1 judge ∷ Lookup Arbiter D 1 ∷ Add Arbiter D 4 2 judge ∷ Add Arbiter D (pool 3276) 2 judge ∷ []) none ≡ both
 
 pub book-cases : BookCases
-unfolding hasLine state board boardStates gameState bitAt positionOf positionRefusal refusal firstRefusal searchRefusal holdsRule holdsPair find lookupRefusal lookupCall addRefusal addCall by-bits
+unfolding hasLine state board boardStates gameState bitAt positionOf positionRefusal refusalTo6 impossibleChoice refusal firstRefusal searchRefusal holdsRule holdsPair
+    find lookupRefusal lookupCall addRefusal addCall by-bits
 book-cases = record {
   D-1 = D-one;
   D-2 = D-two;

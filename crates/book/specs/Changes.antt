@@ -9,7 +9,7 @@ use native.Mathlib.Omega.{arith}
 use borrow.Author.Tests.{leb-false, ltb-true, ltb-false}
 use lib.Dec.{leb, ltb}
 use lib.ListN.{length}
-use Rattle.rules.specs.Checks.{loads}
+use Rattle.rules.specs.Checks.{loads-length}
 use Rattle.rules.specs.Refusals.{refuses}
 use Rattle.rules.specs.RefusalLaws.{passes-check}
 use Rattle.machine.specs.Machine.{Result, Verdict, True, False, Unknown}
@@ -114,7 +114,7 @@ add-changed who bytes words rule L B =
     go : AddSearches bytes words rule L B → (v : ℕ) → ((v ≡ 0 → ⊥) → v ≡ valueNumber rule bytes) → Changed (Add who bytes words rule L) B (storedIn B bytes rule v)
     go s zero h = same
     go s (suc v) h =
-        let w = loads bytes (s .passed .accepted .loads) .bytes in
+        let w = loads-length bytes (s .passed .accepted .loads) in
         let f = s .passed .book-fits in
         record {
           step = inr (record { not-held = s .not-held; is = used-stored B f bytes rule v w ∙ ap (λ x. storing (newEntry bytes rule x) (used B)) (h (λ q. omega arith)) });
@@ -165,7 +165,7 @@ add-statement who bytes words rule L B = record {
     one s zero n = absurd (n refl)
     one s (suc v) n =
         let written = stored-bytes (newEntry bytes rule (suc v)) (B .count) (B .bytes) (omega (arith, s .not-full)) in
-        (loads bytes (s .passed .accepted .loads) .bytes, s .not-full, ap (λ x. bookOf x (suc (B .count))) written)
+        (loads-length bytes (s .passed .accepted .loads), s .not-full, ap (λ x. bookOf x (suc (B .count))) written)
 
     none : (v : ℕ) → v ≡ 0 → storedIn B bytes rule v ≡ B
     none zero z = refl

@@ -2,16 +2,16 @@
 -- Rests on BookStatement, Passing, Changes and the entries' laws.
 use mathlib.Core.Path.{_≡_, refl, sym, ap, _∙_, subst}
 use mathlib.Core.Bool.{Bool, true, false, cond}
-use mathlib.Core.List.{List, [], _∷_}
+use mathlib.Core.List.{List, [], _∷_, _++_, map, append-nil, append-assoc}
 use mathlib.Core.Logic.{inl, inr}
 use Prim.Native.Nat.{ℕ, zero, suc}
-use Rattle.rules.specs.Checks.{loads}
+use Rattle.rules.specs.Checks.{loads-length}
 use Rattle.plain.specs.Plain.{recordValue}
 use Rattle.calls.specs.Calls.{valueNumber}
 use Rattle.searches.specs.Searches.{Limits}
-use Rattle.entries.specs.Entries.{Entry, ruleBits, verdictBits, holdsPair, find, newEntry}
+use Rattle.entries.specs.Entries.{Entry, ruleBits, verdictBits, holdsPair, find, newEntry, storing}
 use Rattle.entries.specs.Buffers.{All, all-storing}
-use Rattle.entries.specs.Placing.{marked}
+use Rattle.entries.specs.Placing.{marked, markFirst}
 use Rattle.entries.specs.Marks.{mark-rule, mark-verdict, all-marked, find-marked}
 use Rattle.entries.specs.declared.Caller.{Caller}
 use Rattle.entries.specs.declared.Caller.the-variants.{Arbiter}
@@ -102,11 +102,46 @@ findable who bytes words rule L B =
     go s (suc v) h n =
         let a = s .passed .accepted in
         let f = s .passed .book-fits in
-        let w = loads bytes (a .loads) .bytes in
+        let w = loads-length bytes (a .loads) in
         record {
           passes = record { loaded = a .loads; rule-most = a .rule-most; book-fits = fits-stored B f bytes rule v w (s .not-full) };
           is-found = ap (find Arbiter bytes rule) (used-stored B f bytes rule v w) ∙ find-stored bytes rule (used B) (suc v) (subst IsVerdict (sym (h n)) (value-verdict bytes rule)) (s .not-held);
         }
+
+-- every bit of the used entries but their marks stays in its place, along a list of calls
+module _ {A : Type 0} (f : Entry → A) (unmarked : (e : Entry) → f (marked e) ≡ f e) where
+  map-marked : (t : Entry → Bool) (es : List Entry) → map f (markFirst t es) ≡ map f es
+  map-marked t [] = refl
+  map-marked t (e ∷ es) = go (t e) (map-marked t es)
+    where
+      go : (b : Bool) → map f (markFirst t es) ≡ map f es → map f (cond b (marked e ∷ es) (e ∷ markFirst t es)) ≡ f e ∷ map f es
+      go true h = ap (λ x. x ∷ map f es) (unmarked e)
+      go false h = ap (λ l. f e ∷ l) h
+
+  map-stored : (es : List Entry) (e : Entry) → map f (storing e es) ≡ map f es ++ (f e ∷ [])
+  map-stored [] e = refl
+  map-stored (x ∷ es) e = ap (λ l. f x ∷ l) (map-stored es e)
+
+  abbrev Begins : (es fs : List Entry) → Type 0
+  Begins es fs = (later : List A) × (map f fs ≡ map f es ++ later)
+
+  unchanged : (es fs : List Entry) → fs ≡ es → Begins es fs
+  unchanged es fs e = ([], ap (map f) e ∙ sym (append-nil (map f es)))
+
+  begins : (c : BookCall) (es fs : List Entry) → Change c es fs → Begins es fs
+  begins (Lookup who bytes rule) es fs e = unchanged es fs e
+  begins (Add who bytes words rule L) es fs (inl e) = unchanged es fs e
+  begins (Add who bytes words rule L) es fs (inr s) = (_, ap (map f) (s .is) ∙ map-stored es _)
+  begins (Publish who bytes rule) es fs (inl e) = unchanged es fs e
+  begins (Publish who bytes rule) es fs (inr e) = ([], ap (map f) e ∙ map-marked (holdsPair bytes rule) es ∙ sym (append-nil (map f es)))
+
+  pub stay-after : (cs : List BookCall) (B : Book) → Begins (used B) (used (afterCalls cs B))
+  stay-after [] B = unchanged (used B) (used B) refl
+  stay-after (c ∷ cs) B =
+      let C = outcomeOf c B .left in
+      let one = begins c (used B) (used C) (changed c B .step) in
+      let more = stay-after cs C in
+      (one .0 ++ more .0, more .1 ∙ ap (λ l. l ++ more .0) (one .1) ∙ append-assoc (map f (used B)) (one .0) (more .0))
 
 -- THE BOOK, of any buffer and any calls
 pub book-statement : (buffer : List ℕ) (calls : List BookCall) → BookStatement buffer calls

@@ -9,7 +9,7 @@ use borrow.Author.Tests.{eqb-true, eqb-false, lt-ltb, le-ltb}
 use lib.Dec.{eqb, ltb}
 use lib.ListN.{getD, set}
 use lib.Seq.{getD-set-same, set-getD, set-set}
-use Rattle.rules.specs.Checks.{loads}
+use Rattle.rules.specs.Checks.{loads-length}
 use Rattle.rules.specs.Record.{refusal}
 use Rattle.rules.specs.Refusals.{refuses, firstRefusal}
 use Rattle.rules.specs.RefusalLaws.{rest-refuses, last-refuses}
@@ -83,7 +83,7 @@ trainer-statement B C = record {
     stored bytes words rule L s zero asked under = same asked under
     stored bytes words rule L s (suc v) asked under =
         let A = storedIn B bytes rule (suc v) in
-        let w = loads bytes (s .passed .accepted .loads) .bytes in
+        let w = loads-length bytes (s .passed .accepted .loads) in
         let f = s .passed .book-fits in
         let p = ap publishedPairs (used-stored B f bytes rule v w) ∙ unpublished bytes rule (suc v) (used B) in
         lookup-alike B A (both-fit B A f (fits-stored B f bytes rule v w (s .not-full))) Trainer asked under (trainer-alike (used B) (used A) (sym p) asked under)

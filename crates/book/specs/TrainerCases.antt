@@ -3,7 +3,7 @@ use mathlib.Core.Path.{_≡_, refl, ap}
 use mathlib.Core.List.{List, [], _∷_, _++_}
 use Prim.Native.Nat.{ℕ}
 use Rattle.rules.specs.Rules.{hasLine, state, board, boardStates}
-use Rattle.rules.specs.Record.{bitAt, positionOf, positionRefusal, refusal}
+use Rattle.rules.specs.Record.{bitAt, positionOf, positionRefusal, refusalTo6, impossibleChoice, refusal}
 use Rattle.rules.specs.Refusals.{firstRefusal}
 use Rattle.plain.specs.Cases.{W, D}
 use Rattle.searches.specs.StepThree.{pool}
@@ -85,7 +85,8 @@ pub record TrainerCases : Type 0 where
   pub list : afterCalls (Add Arbiter D (pool 3276) 1 judge ∷ Publish Arbiter D 1 ∷ Publish Trainer D 1 ∷ Lookup Trainer D 1 ∷ []) none ≡ bookOf (entry D 0x61 ++ blank 22) 1
 
 pub trainer-cases : TrainerCases
-unfolding hasLine state board boardStates bitAt positionOf positionRefusal refusal firstRefusal holdsRule holdsPair find lookupRefusal lookupCall addRefusal addCall publishRefusal publishCall
+unfolding hasLine state board boardStates bitAt positionOf positionRefusal refusalTo6 impossibleChoice refusal firstRefusal holdsRule holdsPair find lookupRefusal
+    lookupCall addRefusal addCall publishRefusal publishCall
 trainer-cases = record {
   unpublished = refl;
   published = refl;

@@ -17,7 +17,7 @@ use Rattle.calls.specs.Calls.{lastRule, mostOpen, answerUnless, outputRe
 use Rattle.calls.specs.Calls.{RefereeOutcome, refereeOutcome, refereeRefusal, refereeCall}
 use Rattle.calls.specs.Refusing.{passes-test, refused-by, passed-all}
 
--- what passing checks 1 to 7 tells
+-- what passing the checks of the record and 7 tells
 pub output-passes : (bytes : List ℕ) (room needed : ℕ) → outputRefusal bytes room needed ≡ 0 → (refusal bytes ≡ 0) × (needed ≤ room)
 unfolding outputRefusal
 output-passes bytes room needed e = let a = none-refuses _ _ e in (a .0, passes-test 6 room needed _ (a .1) .0)

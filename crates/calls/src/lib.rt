@@ -122,7 +122,7 @@ fn replay_from(start: Game, moves: &[u8], out: &mut [u8]) -> Replayed
     }
 }
 
-// Checks 1 to 7 of a call whose output has so much room: 0 and the position, or the number of the first that refuses.
+// The checks of the record and 7 of a call whose output has so much room: 0 and the position, or the number of the first that refuses.
 fn load_for(bytes: &[u8], room: usize, needed: usize) -> Loaded
     ensures { λ r. ⌜ (r .code ≡ outputRefusal (now (bytes .entry)) room needed) × (r .code ≡ 0 → Holds (positionOf (now (bytes .entry))) (r .game .words) 0) ⌝ }
 {

@@ -1,18 +1,19 @@
--- The checks of some calls, computed. Rests on Checks and on the rules' records E, W and D.
+-- The checks of some calls, computed. Rests on Checks and on the rules' records E, W, D and FA.
 use mathlib.Core.Path.{_≡_, refl}
 use mathlib.Core.List.{List, [], _∷_, _++_}
 use Prim.Native.Nat.{ℕ}
 use lib.ListN.{replicate, take}
 use lib.Ieee.{binary64, odd, units, ofFields, ofBits}
 use Rattle.rules.specs.Rules.{hasLine, state, board, boardStates, gameState}
-use Rattle.rules.specs.Record.{bitAt, positionOf, positionRefusal, refusal}
+use Rattle.rules.specs.Record.{bitAt, positionOf, positionRefusal, refusalTo6, impossibleChoice, refusal}
 use Rattle.rules.specs.Refusals.{firstRefusal}
-use Rattle.rules.specs.Examples.{record21, E, W, D}
+use Rattle.rules.specs.Examples.{record21, E, W, D, FA}
 use Rattle.passes.specs.Passes.{total}
 use Rattle.stay.specs.declared.Stay.the-variants.{Off, Margin}
 use Rattle.games_checks.specs.Checks.{numberRefusal, refusals, earlier, earliest, lowest, common, sharesOf, settingsRefusal}
 
--- E with its last bit set, which check 2 refuses; a lone X with X to move, which 3 does; a board with a line of each side, which 4 does
+-- E with its last bit set, which check 2 refuses; a lone X with X to move, which 3 does; a board with a line of each side, which 4 does; D with a done target, which 6 does.
+-- FA is refused by 22
 abbrev bit : List ℕ
 bit = record21 0x780000000000000000000000000000000000000001
 
@@ -21,6 +22,9 @@ lone = record21 0x7A0000000000000000000000000000000000000000
 
 abbrev lines : List ℕ
 lines = record21 0x7AB500000000000000000000000000000000000000
+
+abbrev done : List ℕ
+done = record21 0x02B400AC0054001500054000A8002A000A80054000
 
 -- The number of the check that refuses a record, and the game
 abbrev Names : (bytes : List ℕ) (number index : ℕ) → Type 0
@@ -53,6 +57,9 @@ pub record ChecksCases : Type 0 where
   pub earlier-check : Names (lone ++ E ++ bit) 2 2
   pub lower-game : Names (E ++ lone ++ lines ++ lone) 3 1
   pub three-checks : Names (lines ++ lone ++ bit ++ bit) 2 2
+  -- 22 after 6
+  pub lone-choice : Names (E ++ FA ++ FA) 22 1
+  pub choice-after-6 : Names (FA ++ done ++ FA) 6 1
   -- a part of no node and of one; the whole pool
   pub part-0 : settings 2 3 1 18 1 ≡ 8
   pub part-1 : settings 3 3 1 18 1 ≡ 0
@@ -79,7 +86,8 @@ pub record ChecksCases : Type 0 where
   pub margin-before-sum : staying 10 1 0x3F60000000000000 ≡ 21
 
 pub checks-cases : ChecksCases
-unfolding hasLine state board boardStates gameState bitAt positionOf positionRefusal refusal firstRefusal total numberRefusal earlier earliest lowest settingsRefusal odd units ofFields ofBits
+unfolding hasLine state board boardStates gameState bitAt positionOf positionRefusal refusalTo6 impossibleChoice refusal firstRefusal total numberRefusal earlier earliest
+    lowest settingsRefusal odd units ofFields ofBits
 checks-cases = record {
   empty = refl;
   one = refl;
@@ -93,6 +101,8 @@ checks-cases = record {
   earlier-check = (refl, refl);
   lower-game = (refl, refl);
   three-checks = (refl, refl);
+  lone-choice = (refl, refl);
+  choice-after-6 = (refl, refl);
   part-0 = refl;
   part-1 = refl;
   whole-most = refl;

@@ -37,7 +37,7 @@ numberRefusal bytes =
     ∷ []
     )
 
--- Checks 2 to 6 of every record: the number of the check that refuses it, or 0.
+-- Checks 2 to 6 and 22 of every record: the number of the check that refuses it, or 0.
 abbrev pub refusalAt : List ℕ → ℕ → ℕ
 refusalAt bytes i = refusal (recordAt bytes i)
 

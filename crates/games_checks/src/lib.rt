@@ -75,7 +75,7 @@ fn sooner(found: u8, i: usize, e: Early) -> Early
     }
 }
 
-// Checks 2 to 6 of n records, from the last down.
+// Checks 2 to 6 and 22 of n records, from the last down.
 pub fn earliest(bytes: &[u8], n: usize) -> Early
     requires { ⌜ (n ≤ 8) × (n * 21 ≤ length (now bytes)) ⌝ }
     ensures { λ r. ⌜ EarlyAt 0 (answers (refusalAt (now (bytes .entry))) 0 n) (r .code) (r .index) ⌝ }

@@ -3,7 +3,7 @@
 ghost use mathlib.Core.Path.{_≡_};
 ghost use Prim.Native.Nat.{_<_, _≤_};
 ghost use lib.ListN.{length, replicate};
-ghost use Rattle.rules.specs.Record.{positionOf, refusal};
+ghost use Rattle.rules.specs.Record.{positionOf, refusalTo6, refusal};
 ghost use Rattle.game.specs.Words.{Holds};
 ghost use Rattle.cells.specs.Reading.{BoardsRead};
 use record::Loaded;
@@ -63,9 +63,9 @@ pub extern "C" fn bench_cells_bit_by_bit(bytes: &[u8]) -> BenchCells
     }
 }
 
-// A whole load, checks included, as `record::load` but for the reading, which is bit by bit.
-fn load_bit_by_bit(bytes: &[u8]) -> Loaded
-    ensures { λ r. ⌜ (r .code ≡ refusal (now (bytes .entry))) × (r .code ≡ 0 → Holds (positionOf (now (bytes .entry))) (r .game .words) 0) ⌝ }
+// Checks 1 to 6 and the position's words, as `record::load_to_6` but for the reading, which is bit by bit.
+fn load_bit_by_bit_to_6(bytes: &[u8]) -> Loaded
+    ensures { λ r. ⌜ (r .code ≡ refusalTo6 (now (bytes .entry))) × (r .code ≡ 0 → Holds (positionOf (now (bytes .entry))) (r .game .words) 0) ⌝ }
 {
     if bytes.len() != RECORD_LENGTH {
         return record::refused(1);
@@ -76,6 +76,13 @@ fn load_bit_by_bit(bytes: &[u8]) -> Loaded
     let target = cells::bits::number_at(bytes, 1, 4);
     let side = cells::bits::bit_at(bytes, 0);
     record::load_fields(cells::bits::cells(bytes), target, side)
+}
+
+// A whole load, as `record::load`.
+fn load_bit_by_bit(bytes: &[u8]) -> Loaded
+    ensures { λ r. ⌜ (r .code ≡ refusal (now (bytes .entry))) × (r .code ≡ 0 → Holds (positionOf (now (bytes .entry))) (r .game .words) 0) ⌝ }
+{
+    record::check_choice(load_bit_by_bit_to_6(bytes))
 }
 
 // A load as C has it: 0 and the position's words, or the number of the check that refuses the record.

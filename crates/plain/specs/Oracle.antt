@@ -6,7 +6,7 @@ use mathlib.Core.List.{List, [], _∷_, map}
 use Prim.Native.Nat.{ℕ}
 use Rattle.rules.specs.Rules.{answers}
 use Rattle.rules.specs.Refusals.{firstRefusal}
-use Rattle.rules.specs.Record.{positionRefusal, refusal}
+use Rattle.rules.specs.Record.{positionRefusal, refusalTo6, impossibleChoice, refusal}
 use Rattle.machine.specs.Game.{backward, valueFrom, value, sequences}
 use Rattle.machine.specs.Machine.{True, False, Unknown}
 use Rattle.plain.specs.Plain.{valueOf, sequencesOf, recordValue, recordSequences, plainSearch}
@@ -41,7 +41,7 @@ positions = drawn-o ∷ won-x ∷ last-x ∷ last-o ∷ last-two ∷ ending-x �
 
 -- All are accepted, and so are the records of Cases.
 accepted : map refusal (E ∷ W ∷ D ∷ positions) ≡ 0 ∷ 0 ∷ 0 ∷ 0 ∷ 0 ∷ 0 ∷ 0 ∷ 0 ∷ 0 ∷ 0 ∷ []
-unfolding computedSearch positionRefusal refusal firstRefusal
+unfolding computedSearch positionRefusal refusalTo6 impossibleChoice refusal firstRefusal
 accepted = refl
 
 -- Their values under rules 0, 1 and 2, and their N.

@@ -5,3 +5,4 @@ pub mod Counted
 pub mod Checked
 pub mod Loading
 pub mod Storing
+pub mod Choosing

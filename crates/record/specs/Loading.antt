@@ -9,7 +9,7 @@ use lib.ListN.{getD, length, take, drop, List·getD-append}
 use lib.Seq.{sets, sets-eq, length-sets, length-take-le, getD-take, getD-append-add}
 use Rattle.rules.specs.Rules.{Player, mark, count, board, boardStates}
 use Rattle.rules.specs.Rules.Player.{X, O}
-use Rattle.rules.specs.Record.{bitAt, number, sideBit, playerOf, positionOf, positionRefusal, refusal}
+use Rattle.rules.specs.Record.{bitAt, number, sideBit, playerOf, positionOf, positionRefusal, refusalTo6}
 use Rattle.rules.specs.Refusals.{firstRefusal}
 use Rattle.rules.specs.RefusalLaws.{last-refuses}
 use Rattle.rules.specs.Checks.{passes}
@@ -24,16 +24,16 @@ use Rattle.record.specs.declared.Boards.{Boards}
 use Rattle.record.specs.Reading.{Coded, Shows, Checking, FieldsRead}
 
 module _ (bs : List ℕ) where
-  pub refused-1 : (length bs ≡ 21 → ⊥) → 1 ≡ refusal bs
-  unfolding refusal firstRefusal
+  pub refused-1 : (length bs ≡ 21 → ⊥) → 1 ≡ refusalTo6 bs
+  unfolding refusalTo6 firstRefusal
   refused-1 n = rw (ne-eqb (length bs) 21 n)
 
-  pub refused-2 : length bs ≡ 21 → (bitAt bs 167 ≡ 0 → ⊥) → 2 ≡ refusal bs
-  unfolding refusal firstRefusal
+  pub refused-2 : length bs ≡ 21 → (bitAt bs 167 ≡ 0 → ⊥) → 2 ≡ refusalTo6 bs
+  unfolding refusalTo6 firstRefusal
   refused-2 e n = rw (e, ne-eqb (bitAt bs 167) 0 n)
 
-  pub refused-later : length bs ≡ 21 → bitAt bs 167 ≡ 0 → positionRefusal (positionOf bs) ≡ refusal bs
-  unfolding refusal firstRefusal
+  pub refused-later : length bs ≡ 21 → bitAt bs 167 ≡ 0 → positionRefusal (positionOf bs) ≡ refusalTo6 bs
+  unfolding refusalTo6 firstRefusal
   refused-later e z = rw (e, z) (sym (last-refuses (positionRefusal (positionOf bs))))
 
 -- What was read of the bytes, whichever way: the cells, the target and the side.

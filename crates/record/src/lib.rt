@@ -1,12 +1,13 @@
-// The record of a position: 21 bytes, read with checks 1 to 6, and written.
+// The record of a position: 21 bytes, read with checks 1 to 6 and 22, and written.
 
 ghost use mathlib.Core.Path.{_≡_};
 ghost use mathlib.Core.Bool.{_&&_};
-ghost use mathlib.Core.List.{_++_};
+ghost use mathlib.Core.List.{[], _∷_, _++_};
 ghost use Prim.Native.Nat.{ℕ, _+_, _*_, _/_, _%_, _^_, _<_, _≤_};
 ghost use lib.ListN.{length, getD, drop};
 ghost use Rattle.rules.specs.Rules.{Position, mark, count, state};
-ghost use Rattle.rules.specs.Record.{number, positionOf, positionRefusal, refusal, recordBit, recordOf};
+ghost use Rattle.rules.specs.Record.{number, positionOf, positionRefusal, refusalTo6, impossibleChoice, refusal, recordBit, recordOf};
+ghost use Rattle.rules.specs.Refusals.{refuses, firstRefusal};
 ghost use Rattle.game.specs.Lines.{lineIn, lineTable};
 ghost use Rattle.game.specs.Words.{Holds, Held};
 ghost use Rattle.record.specs.Reading.{Whole, Coded, Shows, Adding, Counting, Checking, FieldsRead, targetRefusal, sideMask};
@@ -32,6 +33,9 @@ const TARGET: usize = 21;
 
 // The side to move.
 const SIDE: usize = 22;
+
+// The target that leaves the choice free.
+const FREE_CHOICE: u16 = 15;
 
 // The state of nine codes: the cells of a board, or the states of the boards.
 fn state_of(table: &[u8; 512], codes: Codes) -> u8
@@ -227,8 +231,8 @@ pub fn load_fields(read: Cells, target: u8, side: u8) -> Loaded
 }
 
 // Checks 1 to 6, in their order, and the position's words.
-pub fn load(bytes: &[u8]) -> Loaded
-    ensures { λ r. ⌜ (r .code ≡ refusal (now (bytes .entry))) × (r .code ≡ 0 → Holds (positionOf (now (bytes .entry))) (r .game .words) 0) ⌝ }
+pub fn load_to_6(bytes: &[u8]) -> Loaded
+    ensures { λ r. ⌜ (r .code ≡ refusalTo6 (now (bytes .entry))) × (r .code ≡ 0 → Holds (positionOf (now (bytes .entry))) (r .game .words) 0) ⌝ }
 {
     if bytes.len() != RECORD_LENGTH {
         return refused(1);
@@ -240,6 +244,44 @@ pub fn load(bytes: &[u8]) -> Loaded
     let target = ((w.first >> 59) % 16) as u8;
     let side = (w.first >> 63) as u8;
     load_fields(cells::from_words(w), target, side)
+}
+
+// What check 22 looks for, in a position's words: a cell is taken, no board is done, and the choice is free.
+fn impossible_choice(words: &[u16; 23]) -> bool
+    requires { ⌜ Held (now words) 0 ⌝ }
+    ensures { λ r. ⌜ ((p : Position) → Holds p (now (words .entry)) 0 → r ≡ impossibleChoice p) ⌝ }
+{
+    if words[TARGET] != FREE_CHOICE {
+        return false;
+    }
+    if game::done_bits(words, 0) != 0 {
+        return false;
+    }
+    count_cells(words, 0) + count_cells(words, 9) != 0
+}
+
+// Check 22 after checks 1 to 6, which gave the code.
+pub fn check_choice(loaded: Loaded) -> Loaded
+    requires { ⌜ (loaded .code ≡ 0 → Held (loaded .game .words) 0) ⌝ }
+    ensures { λ r. ⌜ ((p : Position) → (loaded .code ≡ 0 → Holds p (loaded .game .words) 0)
+        → (r .code ≡ firstRefusal (loaded .code ∷ refuses 22 (impossibleChoice p) ∷ [])) × (r .code ≡ 0 → Holds p (r .game .words) 0)) ⌝ }
+{
+    if loaded.code != 0 {
+        return loaded;
+    }
+    let game = loaded.game;
+    let words = game.words;
+    if impossible_choice(&words) {
+        return refused(22);
+    }
+    loaded
+}
+
+// All checks of a record, in their order, and the position's words.
+pub fn load(bytes: &[u8]) -> Loaded
+    ensures { λ r. ⌜ (r .code ≡ refusal (now (bytes .entry))) × (r .code ≡ 0 → Holds (positionOf (now (bytes .entry))) (r .game .words) 0) ⌝ }
+{
+    check_choice(load_to_6(bytes))
 }
 
 // A bit of cell i: the high one says O (1), the low one X (0).

@@ -7,7 +7,7 @@ use Rattle.rules.specs.Rules.{Position, answers, hasLine, state, board, 
 use Rattle.rules.specs.Rules.Player.{X, O}
 use Rattle.rules.specs.Rules.Replayed.{BadMove}
 use Rattle.rules.specs.Refusals.{firstRefusal}
-use Rattle.rules.specs.Record.{bitAt, positionOf, positionRefusal, refusal, recordBit, recordOf}
+use Rattle.rules.specs.Record.{bitAt, positionOf, positionRefusal, refusalTo6, impossibleChoice, refusal, recordBit, recordOf}
 use Rattle.rules.specs.Examples.{record21, E, W, D, nine, position}
 
 -- The bytes of E, W and D say these positions, cell by cell (MANUAL, Positions to try).
@@ -102,15 +102,14 @@ five-checks : map positionRefusal (
 unfolding hasLine state board boardStates firstRefusal bitAt positionOf positionRefusal
 five-checks = refl
 
--- Records: 20 bytes; E with last bit 1, with target 9, with first byte 7A (X has a cell and is to move), FA (O is to move), F8 (O is to move, and no cell is taken).
+-- Records: 20 bytes; E with last bit 1, with target 9, with first byte 7A (X has a cell and is to move), F8 (O is to move, and no cell is taken).
 records : map refusal (
     answers (λ k. 0) 0 20 ∷
     record21 0x780000000000000000000000000000000000000001 ∷
     record21 0x480000000000000000000000000000000000000000 ∷
     record21 0x7A0000000000000000000000000000000000000000 ∷
-    record21 0xFA0000000000000000000000000000000000000000 ∷
-    record21 0xF80000000000000000000000000000000000000000 ∷ []) ≡ 1 ∷ 2 ∷ 2 ∷ 3 ∷ 0 ∷ 3 ∷ []
-unfolding hasLine state board boardStates firstRefusal bitAt positionOf positionRefusal refusal
+    record21 0xF80000000000000000000000000000000000000000 ∷ []) ≡ 1 ∷ 2 ∷ 2 ∷ 3 ∷ 3 ∷ []
+unfolding hasLine state board boardStates firstRefusal bitAt positionOf positionRefusal refusalTo6 impossibleChoice refusal
 records = refl
 
 -- The record of E after 44.

@@ -1,5 +1,5 @@
--- What passing the checks of a record stands for, by name: Passes for checks 2 to 6 of a position, Loads for 1 to 6 of the bytes; both ways. And the shape of
--- an accepted position. Rests on Record, RefusalLaws, Boards and Tests.
+-- What passing the checks of a record stands for, by name: Passes for checks 2 to 6 of a position, LoadsTo6 for 1 to 6 of the bytes, Loads for all of them; both
+-- ways. And the shape of an accepted position. Rests on Record, RefusalLaws, Boards and Tests.
 use mathlib.Core.Bool.{Bool, true, false, not, _&&_, _||_, and-false}
 use mathlib.Core.Path.{_≡_, sym, ap, _∙_}
 use mathlib.Core.List.{List, []}
@@ -11,7 +11,7 @@ use lib.Dec.{eqb, ltb}
 use lib.ListN.{length}
 use Rattle.rules.specs.Rules.{Player, Position, mark, code, answers, all, any, hasLine, state, board, boardStates, count}
 use Rattle.rules.specs.Rules.Player.{X, O}
-use Rattle.rules.specs.Record.{bitAt, number, positionOf, coded, fairTurn, bothLines, positionRefusal, refusal, Accepted}
+use Rattle.rules.specs.Record.{bitAt, number, positionOf, coded, fairTurn, bothLines, positionRefusal, refusalTo6, impossibleChoice, refusal, Accepted}
 use Rattle.rules.specs.Refusals.{firstRefusal}
 use Rattle.rules.specs.RefusalLaws.{none-refuses, passes-check, passes-need}
 use Rattle.rules.specs.Tests.{both-true, both-false, one-true, implied, implies, not-any, all-at, at-all}
@@ -91,14 +91,14 @@ passes-refusal p h =
     )
 
 -- Checks 1 to 6.
-pub record Loads (bs : List ℕ) : Type 0 where
+pub record LoadsTo6 (bs : List ℕ) : Type 0 where
   pub bytes : length bs ≡ 21
   pub last-zero : bitAt bs 167 ≡ 0
   pub loaded : positionRefusal (positionOf bs) ≡ 0
 
-pub loads : (bs : List ℕ) → refusal bs ≡ 0 → Loads bs
-unfolding refusal
-loads bs e =
+pub loads-to-6 : (bs : List ℕ) → refusalTo6 bs ≡ 0 → LoadsTo6 bs
+unfolding refusalTo6
+loads-to-6 bs e =
     let one = none-refuses _ _ e in
     let two = none-refuses _ _ (one .1) in
     let later = none-refuses _ _ (two .1) in
@@ -108,14 +108,32 @@ loads bs e =
       loaded = later .0;
     }
 
+pub to-6-refusal : (bs : List ℕ) → LoadsTo6 bs → refusalTo6 bs ≡ 0
+unfolding refusalTo6 firstRefusal
+to-6-refusal bs h = rw (h .bytes, h .last-zero, h .loaded)
+
+-- Checks 1 to 6, and 22.
+pub record Loads (bs : List ℕ) : Type 0 where
+  pub to-6 : LoadsTo6 bs
+  pub possible : impossibleChoice (positionOf bs) ≡ false
+
+pub loads : (bs : List ℕ) → refusal bs ≡ 0 → Loads bs
+unfolding refusal
+loads bs e =
+    let six = none-refuses _ _ e in
+    record { to-6 = loads-to-6 bs (six .0); possible = passes-check 21 _ (none-refuses _ _ (six .1) .0) }
+
 pub loads-refusal : (bs : List ℕ) → Loads bs → refusal bs ≡ 0
 unfolding refusal firstRefusal
-loads-refusal bs h = rw (h .bytes, h .last-zero, h .loaded)
+loads-refusal bs h = rw (to-6-refusal bs (h .to-6), h .possible)
+
+pub loads-length : (bs : List ℕ) → refusal bs ≡ 0 → length bs ≡ 21
+loads-length bs e = loads bs e .to-6 .bytes
 
 -- a record that is not refused says an accepted position
 pub loads-accepted : (bs : List ℕ) → Loads bs → Accepted (positionOf bs)
 unfolding positionOf
-loads-accepted bs h = record { whole = length-answers (λ i. number (bitAt bs) (5 + 2 * i) 2) 0 81; passes = h .loaded }
+loads-accepted bs h = record { whole = length-answers (λ i. number (bitAt bs) (5 + 2 * i) 2) 0 81; passes = h .to-6 .loaded; possible = h .possible }
 
 -- 81 codes 0, 1 or 2, and a target 0 to 8 or 15.
 pub record Shaped (p : Position) : Type 0 where

@@ -1,4 +1,4 @@
--- Positions to try (MANUAL): E, W and D as bytes, and a way to write a position so that its boards can be seen. Rests on Rules.
+-- Positions to try (MANUAL): E, W, D and FA as bytes, and a way to write a position so that its boards can be seen. Rests on Rules.
 use mathlib.Core.List.{List, [], _∷_, _++_}
 use Prim.Native.Nat.{ℕ, _+_, _-_, _/_, _%_, _^_}
 use Rattle.rules.specs.Rules.{Player, Position, answers}
@@ -18,6 +18,10 @@ W = record21 0x12A000A80028051500054000000000000000000000
 
 abbrev pub D : List ℕ
 D = record21 0x7AB400AC0054001500054000A8002A000A80054000
+
+-- E's bytes with FA as the first: X has a cell, O is to move, and the choice is free, which can't be.
+abbrev pub FA : List ℕ
+FA = record21 0xFA0000000000000000000000000000000000000000
 
 -- Nine codes written as a number of nine digits, three to a row: 0 empty, 1 X, 2 O (among board states, 3 drawn).
 abbrev pub nine : ℕ → List ℕ

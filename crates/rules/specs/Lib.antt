@@ -2,7 +2,9 @@ pub mod Rules
 pub mod Refusals
 pub mod RefusalLaws
 pub mod Record
+pub mod Choice
 pub mod Examples
+pub mod FreeChoices
 pub mod Answers
 pub mod Tests
 pub mod Boards
@@ -14,4 +16,5 @@ pub mod Plays
 pub mod Replays
 pub mod Bits
 pub mod Roundtrip
+pub mod ChoiceLaws
 pub mod Cases

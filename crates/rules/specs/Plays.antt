@@ -1,6 +1,6 @@
--- What a legal move does to a position: one empty cell less, the turn passes, the shape is kept, and an accepted position stays accepted.
--- Rests on States, Legal and Checks.
-use mathlib.Core.Bool.{Bool, true, false, cond}
+-- What a legal move does to a position: one empty cell less, the turn passes, the shape is kept, no choice that can't be comes of it, and an accepted position stays
+-- accepted. Rests on States, Legal and Checks.
+use mathlib.Core.Bool.{Bool, true, false, cond, _&&_, true≢false, and-false}
 use mathlib.Core.Path.{_≡_, refl, sym, ap, _∙_}
 use mathlib.Core.List.{List, [], _∷_}
 use mathlib.Core.Logic.{_⊎_, inl, inr}
@@ -8,14 +8,14 @@ use Prim.Native.Nat.{ℕ, zero, suc, _+_, _*_, _<_, _≤_}
 use native.Mathlib.Nat.{not-suc-le-zero, le-of-suc-le-suc}
 use native.Mathlib.Decide.{decLt, ℕ-discrete}
 use native.Mathlib.Omega.{arith}
-use borrow.Author.Tests.{eqb-true, eq-eqb}
+use borrow.Author.Tests.{eqb-true, eq-eqb, ne-eqb}
 use lib.Dec.{eqb, ltb}
 use lib.ListN.{length, set, length-set, List·getD-eq-default}
 use Rattle.rules.specs.Rules.{Player, Position, other, mark, code, all, state, board, boardStates, boardOf, cellOf, moveError, play, count}
 use Rattle.rules.specs.Rules.Player.{X, O}
-use Rattle.rules.specs.Record.{fairTurn, bothLines, Accepted}
-use Rattle.rules.specs.Tests.{all-set}
-use Rattle.rules.specs.Boards.{code-states}
+use Rattle.rules.specs.Record.{fairTurn, bothLines, impossibleChoice, Accepted}
+use Rattle.rules.specs.Tests.{all-at, all-set}
+use Rattle.rules.specs.Boards.{length-states, code-states}
 use Rattle.rules.specs.Legal.{legal}
 use Rattle.rules.specs.States.{kept-board, board-lineless, game-lineless}
 use Rattle.rules.specs.Checks.{Passes, passes, passes-refusal, one-lineless, Shaped}
@@ -71,6 +71,15 @@ module _ (cs : List ℕ) (c : ℕ) where
   pub next-open : (t : Bool) → eqb (state (board cs c)) 0 ≡ t → cond t c 15 < 9 → state (board cs (cond t c 15)) ≡ 0
   next-open true e l = eqb-true (state (board cs c)) 0 e
   next-open false e l = absurd (omega arith)
+
+-- the next target names a board, or board c is done, so not every board is in play
+led-or-done : (states : List ℕ) (c : ℕ) → c < 9 → c < length states → (t : Bool) → eqb (code states c) 0 ≡ t → (all (eqb 0) states && eqb (cond t c 15) 15) ≡ false
+led-or-done states c h l true e = rw (ne-eqb c 15 (λ q. omega arith)) (and-false (all (eqb 0) states))
+led-or-done states c h l false e = go (all (eqb 0) states) refl
+  where
+    go : (a : Bool) → all (eqb 0) states ≡ a → (a && true) ≡ false
+    go false q = refl
+    go true q = let z : 0 ≡ code states c = eqb-true 0 (code states c) (all-at (eqb 0) states c 3 q l) in absurd (true≢false (sym (eq-eqb (code states c) 0 (sym z)) ∙ e))
 
 -- any move
 module _ (p : Position) (m : ℕ) where
@@ -128,5 +137,16 @@ module _ (p : Position) (m : ℕ) (e : moveError p m ≡ 0) where
     target-open = next-open (play p m .cells) (cellOf m) (eqb (state (board (play p m .cells) (cellOf m))) 0) refl;
   }
 
+  -- after a move the choice is free only if the board that the cell names is done
+  pub possible-kept : impossibleChoice (play p m) ≡ false
+  unfolding impossibleChoice
+  possible-kept =
+      let states : List ℕ = boardStates (play p m .cells) in
+      rw (target-states, led-or-done states (cellOf m) (legal p m e .cell-in) (rw (length-states (play p m .cells)) (legal p m e .cell-in)) (eqb (code states (cellOf m)) 0) refl)
+
   pub keeps-accepted : Accepted p → Accepted (play p m)
-  keeps-accepted a = record { whole = length-played p m ∙ a .whole; passes = passes-refusal (play p m) (keeps-passes (passes p (a .passes))) }
+  keeps-accepted a = record {
+    whole = length-played p m ∙ a .whole;
+    passes = passes-refusal (play p m) (keeps-passes (passes p (a .passes)));
+    possible = possible-kept;
+  }

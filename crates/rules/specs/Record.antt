@@ -1,5 +1,5 @@
--- The record (MANUAL, Record): its 21 bytes by bits, checks 1 to 6 (MANUAL, Turned back), and the record of a position. Rests on Rules and Refusals.
-use mathlib.Core.Bool.{Bool, cond, not, _&&_, _||_}
+-- The record (MANUAL, Record): its 21 bytes by bits, checks 1 to 6 and 22 (MANUAL, Turned back), and the record of a position. Rests on Rules and Refusals.
+use mathlib.Core.Bool.{Bool, false, cond, not, _&&_, _||_}
 use mathlib.Core.List.{List, [], _∷_}
 use mathlib.Core.Path.{_≡_}
 use Prim.Native.Nat.{ℕ, zero, suc, _+_, _*_, _-_, _/_, _%_, _^_}
@@ -60,17 +60,26 @@ positionRefusal p =
     refuses 6 (ltb (p .target) 9 && not (eqb (code states (p .target)) 0)) ∷ [])
 
 -- Checks 1 to 6 of a record: the first that refuses it, or 0.
-unfoldable pub refusal : List ℕ → ℕ
-refusal bs =
+unfoldable pub refusalTo6 : List ℕ → ℕ
+refusalTo6 bs =
     firstRefusal (
     refuses 1 (not (eqb (length bs) 21)) ∷
     refuses 2 (not (eqb (bitAt bs 167) 0)) ∷
     positionRefusal (positionOf bs) ∷ [])
 
--- An accepted position: 81 cells that pass every check ahead of 7.
+-- Check 22, a free choice that can't be: no board is done and the target is 15, though a cell is taken.
+unfoldable pub impossibleChoice : Position → Bool
+impossibleChoice p = (all (eqb 0) (boardStates (p .cells)) && eqb (p .target) 15) && not (all (eqb 0) (p .cells))
+
+-- All checks of a record, 1 to 6 and then 22: the first that refuses it, or 0.
+unfoldable pub refusal : List ℕ → ℕ
+refusal bs = firstRefusal (refusalTo6 bs ∷ refuses 22 (impossibleChoice (positionOf bs)) ∷ [])
+
+-- An accepted position: 81 cells that pass every check ahead of 7, which are 2 to 6 and 22.
 pub record Accepted (p : Position) : Type 0 where
   pub whole : length (p .cells) ≡ 81
   pub passes : positionRefusal p ≡ 0
+  pub possible : impossibleChoice p ≡ false
 
 -- Bit o of a position's record: the side, the target, the cells, one zero bit.
 unfoldable pub recordBit : Position → ℕ → ℕ

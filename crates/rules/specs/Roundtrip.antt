@@ -11,7 +11,7 @@ use lib.Dec.{eqb, ltb}
 use lib.ListN.{getD, length, List·getD-eq-default}
 use Rattle.rules.specs.Rules.{Player, Position, answers}
 use Rattle.rules.specs.Rules.Player.{X, O}
-use Rattle.rules.specs.Record.{bitAt, number, playerOf, sideBit, positionOf, recordBit, recordOf, positionRefusal, refusal, Accepted}
+use Rattle.rules.specs.Record.{bitAt, number, playerOf, sideBit, positionOf, recordBit, recordOf, positionRefusal, refusalTo6, refusal, Accepted}
 use Rattle.rules.specs.Refusals.{firstRefusal}
 use Rattle.rules.specs.RefusalLaws.{last-refuses}
 use Rattle.rules.specs.Bits.{Bits, bit, number-lt, number-bit, number-of-bits}
@@ -178,15 +178,18 @@ module _ (p : Position) (shape : Shaped p) where
           answers-are (λ i. number (bitAt (recordOf p)) (5 + 2 * i) 2) (p .cells) 81 0 (shape .whole)
           (λ i h. read (5 + 2 * i) 2 (getD (p .cells) i 0) (omega arith) (cell i h) (λ j g. record-cell p i j h g))
 
-  -- Its record is refused by what is wrong with it, and by no other check.
-  pub store-refusal : refusal (recordOf p) ≡ positionRefusal p
-  unfolding refusal firstRefusal
+  -- Of checks 1 to 6 its record is refused by what is wrong with it, and by no other.
+  pub store-refusal : refusalTo6 (recordOf p) ≡ positionRefusal p
+  unfolding refusalTo6 firstRefusal
   store-refusal = rw (record-length p, read-back p 167 (omega arith), record-last p, load-store) (last-refuses (positionRefusal p))
 
 -- A loaded record stored again is its own bytes.
 pub loaded-stores : (bs : List ℕ) → ((i : ℕ) → getD bs i 0 < 256) → refusal bs ≡ 0 → recordOf (positionOf bs) ≡ bs
-loaded-stores bs small e = store-load bs (loads bs e .bytes) small (loads bs e .last-zero)
+loaded-stores bs small e = let h = loads bs e .to-6 in store-load bs (h .bytes) small (h .last-zero)
 
 -- A stored accepted position loads as itself.
 pub stored-loads : (p : Position) → Accepted p → (positionOf (recordOf p) ≡ p) × (refusal (recordOf p) ≡ 0)
-stored-loads p a = (load-store p (shaped p a), store-refusal p (shaped p a) ∙ a .passes)
+unfolding refusal firstRefusal
+stored-loads p a =
+    let back = load-store p (shaped p a) in
+    (back, rw (store-refusal p (shaped p a), a .passes, back, a .possible))

@@ -4,7 +4,7 @@ use mathlib.Core.List.{List}
 use Prim.Native.Nat.{ℕ, zero, suc, _≤_}
 use native.Mathlib.Omega.{arith}
 use Rattle.rules.specs.Rules.{hasLine, state, board, boardStates, gameState}
-use Rattle.rules.specs.Record.{bitAt, positionOf, positionRefusal, refusal}
+use Rattle.rules.specs.Record.{bitAt, positionOf, positionRefusal, refusalTo6, impossibleChoice, refusal}
 use Rattle.rules.specs.Refusals.{firstRefusal}
 use Rattle.rules.specs.Examples.{W}
 use Rattle.machine.specs.Machine.{Settings, Result, fields, Unknown}
@@ -46,7 +46,7 @@ under-each words a b c r h (suc (suc (suc n))) l = absurd (omega arith)
 
 -- THEOREM: step 3 needs the nodes that an expansion takes
 pub step-three : StepThree
-unfolding hasLine state board boardStates gameState bitAt positionOf positionRefusal refusal firstRefusal searchRefusal
+unfolding hasLine state board boardStates gameState bitAt positionOf positionRefusal refusalTo6 impossibleChoice refusal firstRefusal searchRefusal
 step-three = record {
   needs = policy-needs;
   W-two = under-each (pool 2) refl refl refl _ (starred .W-two);

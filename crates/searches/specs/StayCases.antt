@@ -3,7 +3,7 @@ use mathlib.Core.Path.{_≡_, refl}
 use mathlib.Core.List.{List, [], _∷_, map}
 use Prim.Native.Nat.{ℕ}
 use lib.Ieee.{binary64, odd, units, ofFields, ofBits}
-use Rattle.rules.specs.Record.{positionRefusal, refusal}
+use Rattle.rules.specs.Record.{positionRefusal, refusalTo6, impossibleChoice, refusal}
 use Rattle.rules.specs.Refusals.{firstRefusal}
 use Rattle.machine.specs.Machine.{Result, True, False, Unknown, fields}
 use Rattle.plain.specs.Plain.{plainSearch}
@@ -58,7 +58,7 @@ unfolding computedSearch by-bits
 plain-results = refl
 
 accepted : map (λ c. searchRefusal C (nodes (pool (c .pool))) (c .rule) (staying (c .budget) (c .stay))) stayCases ≡ 0 ∷ 0 ∷ 0 ∷ 0 ∷ 0 ∷ 0 ∷ 0 ∷ 0 ∷ 0 ∷ 0 ∷ 0 ∷ 0 ∷ 0 ∷ []
-unfolding computedSearch positionRefusal refusal firstRefusal searchRefusal by-bits
+unfolding computedSearch positionRefusal refusalTo6 impossibleChoice refusal firstRefusal searchRefusal by-bits
 accepted = refl
 
 answers-from : (cs : List StayCase) → map (λ c. searchRefusal C (nodes (pool (c .pool))) (c .rule) (staying (c .budget) (c .stay))) cs ≡ map (λ c. 0) cs
@@ -84,7 +84,7 @@ pub record StayAnswers : Type 0 where
   pub budget-first : searchCall E (pool 1) 0 (staying 3000001 (by-bits 0x3F60000000000000)) ≡ Refused 10
 
 pub stay-answers : StayAnswers
-unfolding computedSearch positionRefusal refusal firstRefusal searchRefusal searchCall fullCall by-bits
+unfolding computedSearch positionRefusal refusalTo6 impossibleChoice refusal firstRefusal searchRefusal searchCall fullCall by-bits
 stay-answers = record {
   of-an-ending = answers-from stayCases accepted plain-results;
   nan = refl;

@@ -9,7 +9,7 @@ use borrow.Author.Tests.{le-ltb, lt-ltb}
 use lib.ListN.{length, drop}
 use Rattle.rules.specs.Rules.{Position, replay, hasLine, state, board, boardStates}
 use Rattle.rules.specs.Rules.Replayed.{Reached}
-use Rattle.rules.specs.Record.{bitAt, positionOf, positionRefusal, recordBit, recordOf, refusal}
+use Rattle.rules.specs.Record.{bitAt, positionOf, positionRefusal, refusalTo6, impossibleChoice, refusal, recordBit, recordOf}
 use Rattle.rules.specs.Refusals.{firstRefusal}
 use Rattle.rules.specs.Replays.{no-move}
 use Rattle.rules.specs.Examples.{E}
@@ -20,7 +20,7 @@ use Rattle.sheets.specs.Beginnings.{begins-through, begins-length, commo
 
 -- E is the record of the empty game
 pub E-loads : (refusal E ≡ 0) × (positionOf E ≡ emptyGame)
-unfolding hasLine state board boardStates bitAt positionOf positionRefusal refusal firstRefusal
+unfolding hasLine state board boardStates bitAt positionOf positionRefusal refusalTo6 impossibleChoice refusal firstRefusal
 E-loads = (refl, refl)
 
 E-stored : recordOf emptyGame ≡ E

@@ -3,7 +3,7 @@
 use mathlib.Core.Path.{_≡_, refl}
 use mathlib.Core.List.{[], _∷_, _++_}
 use Rattle.rules.specs.Rules.{hasLine, state, board, boardStates, gameState}
-use Rattle.rules.specs.Record.{bitAt, positionOf, positionRefusal, refusal}
+use Rattle.rules.specs.Record.{bitAt, positionOf, positionRefusal, refusalTo6, impossibleChoice, refusal}
 use Rattle.rules.specs.Refusals.{firstRefusal}
 use Rattle.machine.specs.Machine.{Result, True, fields}
 use Rattle.plain.specs.Cases.{record21, W, D, computedSearch}
@@ -54,7 +54,7 @@ pub record BudgetCases : Type 0 where
   pub granted : Judges (A ++ A) 24 (1 ∷ 1 ∷ []) (unlimited 3000000) (A-7 ∷ A-7 ∷ [])
 
 pub budget-cases : BudgetCases
-unfolding hasLine state board boardStates gameState bitAt positionOf positionRefusal refusal firstRefusal computedSearch total unspentAt by-bits
+unfolding hasLine state board boardStates gameState bitAt positionOf positionRefusal refusalTo6 impossibleChoice refusal firstRefusal computedSearch total unspentAt by-bits
     searchRefusal searchCall fullOf fullCall holdsRule holdsPair find addRefusal addCall numberRefusal earlier earliest lowest settingsRefusal gamesCall
 budget-cases = record {
   search-largest = refl;

@@ -57,7 +57,7 @@ full-over : (bytes : List ℕ) (words : ℕ) (L : Limits) → budgetMost < L .bu
 full-over bytes words L l = sym (full-refused bytes words L _ (over bytes (nodes words) 0 L l) (up-to-ten-refuses bytes (nodes words)))
 
 -- an arbiter's checks, where search's refuse
-arbiter-first : (n m : ℕ) → (n ≡ 0 → ⊥) → firstRefusal (0 ∷ n ∷ m ∷ []) ≡ n
+pub arbiter-first : (n m : ℕ) → (n ≡ 0 → ⊥) → firstRefusal (0 ∷ n ∷ m ∷ []) ≡ n
 unfolding firstRefusal
 arbiter-first n m z = first-refuses n (m ∷ []) z
 
@@ -121,10 +121,10 @@ module _ (bytes shares : List ℕ) (C : Common) (words : ℕ) where
   as-it-was w zero = (refl, refl)
   as-it-was w (suc k) = refl
 
-  abbrev Promised : ℕ → Type 0
+  abbrev pub Promised : ℕ → Type 0
   Promised n = (w : List ℕ) × (length w ≡ n) × GamesStatement bytes shares C w w (gamesCall bytes n shares C)
 
-  promised : Promised words
+  pub promised : Promised words
   promised =
       let w : List ℕ = replicate words 0 in
       let long : length w ≡ words = length-replicate words 0 in

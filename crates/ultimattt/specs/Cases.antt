@@ -6,8 +6,9 @@ use mathlib.Core.List.{List, [], _∷_, _++_}
 use Prim.Native.Nat.{ℕ}
 use lib.ListN.{getD, replicate}
 use Rattle.rules.specs.Rules.{hasLine, state, board, boardStates, gameState, moveError, play, legalMoves, replay, drawn, finalValue}
-use Rattle.rules.specs.Record.{bitAt, positionOf, positionRefusal, refusal, recordBit, recordOf}
+use Rattle.rules.specs.Record.{bitAt, positionOf, positionRefusal, refusalTo6, impossibleChoice, refusal, recordBit, recordOf}
 use Rattle.rules.specs.Refusals.{firstRefusal}
+use Rattle.rules.specs.Examples.{FA}
 use Rattle.machine.specs.Game.{backward, valueFrom, value}
 use Rattle.machine.specs.Machine.{Result, True, False, Unknown}
 use Rattle.plain.specs.Plain.{valueOf}
@@ -30,6 +31,7 @@ use Rattle.stay.specs.Cases.{MarginCases, margin-cases}
 use Rattle.searches.specs.Searches.{Limits, nodes, settings, searchRefusal, Refused, Answered, searchCall, fullOf, Draw, AtLeastDraw, Full, Turned, fullCall}
 use Rattle.games_checks.specs.Cases.{ChecksCases, checks-cases}
 use Rattle.ultimattt.specs.BudgetCases.{BudgetCases, budget-cases}
+use Rattle.ultimattt.specs.ChoiceCases.{ChoiceCases, choice-cases}
 use Rattle.ultimattt.specs.GamesCases.{GamesCases, games-cases}
 use Rattle.ultimattt.specs.RoomCases as room-cases
 use Rattle.ultimattt.specs.RoomCases.{short-at-once, RoomAnswers, room-answers}
@@ -60,9 +62,9 @@ pub record Cases : Type 0 where
   pub E-44-44 : replayCall E (0x44 ∷ 0x44 ∷ []) out21 ≡ replayOutcome 15 1 out21
   pub E-44-00 : replayCall E (0x44 ∷ 0x00 ∷ []) out21 ≡ replayOutcome 14 1 out21
   pub E-09 : replayCall E (0x09 ∷ []) out21 ≡ replayOutcome 11 0 out21
-  -- first byte 7A is refused by 3; FA is accepted
+  -- first byte 7A is refused by 3, FA by 22
   pub E-7A : refusal (0x7A ∷ replicate 20 0) ≡ 3
-  pub E-FA : refusal (0xFA ∷ replicate 20 0) ≡ 0
+  pub E-FA : refusal FA ≡ 22
   -- E with budget 0; with budget 1, and a pool of 82 or of 81 nodes
   pub E-spent : UnderEach E (pool 3276) (judging 0) (fields Unknown 1 1 1 0 0 0 0 1)
   pub E-fits : UnderEach E (pool 82) (judging 1) (fields Unknown 1 81 82 0 0 0 1 1)
@@ -116,6 +118,8 @@ pub record Cases : Type 0 where
   pub games : GamesCases
   -- the largest budget, share and allowance, and one above
   pub budgets : BudgetCases
+  -- free choice that can't be, and where it can
+  pub choices : ChoiceCases
   -- a record's three words: the cases of crate cells; E with 03 32 and with 32, which take cell 29, and code 3 there
   pub words : WordsCases
   pub O-29 : replayCall E (0x03 ∷ 0x32 ∷ []) out21 ≡ replayOutcome 0 0 (record21 0x100800000000000100000000000000000000000000)
@@ -123,7 +127,9 @@ pub record Cases : Type 0 where
   pub three-29 : refusal (record21 0x180800000000000180000000000000000000000000) ≡ 2
 
 pub cases : Cases
-unfolding drawn finalValue hasLine state board boardStates gameState moveError play legalMoves replay bitAt positionOf positionRefusal refusal recordBit recordOf firstRefusal afterMoves outputRefusal replayCall movesCall openCells refereeRefusal refereeCall backward valueFrom value valueOf searchRefusal searchCall fullOf fullCall
+unfolding drawn finalValue hasLine state board boardStates gameState moveError play legalMoves replay bitAt positionOf positionRefusal refusalTo6 impossibleChoice refusal
+    recordBit recordOf firstRefusal afterMoves outputRefusal replayCall movesCall openCells refereeRefusal refereeCall backward valueFrom value valueOf searchRefusal
+    searchCall fullOf fullCall
 cases = record {
   E-count = refl;
   E-first = refl;
@@ -171,6 +177,7 @@ cases = record {
   games-checks = checks-cases;
   games = games-cases;
   budgets = budget-cases;
+  choices = choice-cases;
   words = words-cases;
   O-29 = refl;
   X-29 = refl;

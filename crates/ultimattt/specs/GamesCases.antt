@@ -4,7 +4,7 @@ use mathlib.Core.List.{List, [], _∷_, _++_}
 use Prim.Native.Nat.{ℕ, _-_, _*_}
 use lib.ListN.{length, replicate, take}
 use Rattle.rules.specs.Rules.{hasLine, state, board, boardStates, gameState}
-use Rattle.rules.specs.Record.{bitAt, positionOf, positionRefusal, refusal}
+use Rattle.rules.specs.Record.{bitAt, positionOf, positionRefusal, refusalTo6, impossibleChoice, refusal}
 use Rattle.rules.specs.Refusals.{firstRefusal}
 use Rattle.machine.specs.Machine.{Result, True, False, Unknown}
 use Rattle.plain.specs.Cases.{record21, E, W, D, fields, computedSearch}
@@ -94,7 +94,8 @@ pub record GamesCases : Type 0 where
   pub not-a-margin : Refuses (W ++ D) 4 (1 ∷ 3 ∷ []) (common 0 0 3 1 (by-bits 0x3F60000000000000)) 21 0
 
 pub games-cases : GamesCases
-unfolding hasLine state board boardStates gameState bitAt positionOf positionRefusal refusal firstRefusal computedSearch total unspentAt numberRefusal earlier earliest lowest settingsRefusal gamesCall by-bits
+unfolding hasLine state board boardStates gameState bitAt positionOf positionRefusal refusalTo6 impossibleChoice refusal firstRefusal computedSearch total unspentAt
+    numberRefusal earlier earliest lowest settingsRefusal gamesCall by-bits
 games-cases = record {
   one = refl;
   one-goes-on = refl;

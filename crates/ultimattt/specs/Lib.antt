@@ -3,6 +3,9 @@ pub mod GamesCases
 pub mod BudgetStatement
 pub mod Budgets
 pub mod BudgetCases
+pub mod ChoiceStatement
+pub mod Choices
+pub mod ChoiceCases
 pub mod Cases
 pub mod Exports
 pub mod TwoAnswers

@@ -2,7 +2,7 @@
 use mathlib.Core.Path.{_≡_, refl}
 use mathlib.Core.List.{List, [], _∷_, map}
 use Prim.Native.Nat.{ℕ}
-use Rattle.rules.specs.Record.{positionRefusal, refusal}
+use Rattle.rules.specs.Record.{positionRefusal, refusalTo6, impossibleChoice, refusal}
 use Rattle.rules.specs.Refusals.{firstRefusal}
 use Rattle.machine.specs.Machine.{Result, True, False, Unknown}
 use Rattle.plain.specs.Plain.{plainSearch}
@@ -78,7 +78,7 @@ unfolding computedSearch
 plain-results = refl
 
 accepted : map (λ c. searchRefusal (c .bytes) (c .pool) (c .rule) (judging 100000)) roomCases ≡ map (λ c. 0) roomCases
-unfolding computedSearch positionRefusal refusal firstRefusal searchRefusal
+unfolding computedSearch positionRefusal refusalTo6 impossibleChoice refusal firstRefusal searchRefusal
 accepted = refl
 
 -- So they are search's answers.
@@ -99,5 +99,5 @@ room-answers = answers-from roomCases accepted plain-results
 
 -- Full verdict with two nodes, where X's moves draw: short under rule 1 alone.
 pub full-short : fullCall last-x (pool 2) (judging 100000) ≡ Full AtLeastDraw short-at-once (fields True 0 2147483648 2 1 1 0 1 0)
-unfolding computedSearch positionRefusal refusal firstRefusal searchRefusal fullOf
+unfolding computedSearch positionRefusal refusalTo6 impossibleChoice refusal firstRefusal searchRefusal fullOf
 full-short = full-with last-x (pool 2) (judging 100000) refl _ _ refl refl

@@ -1,4 +1,4 @@
-//! The table of refusals (MANUAL, Turned back), checks 1 to 10 and 16 to 21, as plain code of our own. The original has
+//! The table of refusals (MANUAL, Turned back), checks 1 to 10 and 16 to 22, as plain code of our own. The original has
 //! no such checks, so these are not its answers: they decide what is handed to it, and they are what a
 //! refusal of the proved library is compared with. Refusals 11 to 15 are the original's own errors.
 //!
@@ -61,8 +61,14 @@ pub fn finished(position: &Position) -> bool {
         || position.cells.iter().all(|board| board_state(board) != Board::InPlay)
 }
 
-/// Checks 1 to 6.
+/// All checks of a record: 1 to 6, then 22.
 pub fn record_refusal(record: &[u8]) -> Option<u32> {
+    let chosen = <&[u8; LENGTH]>::try_from(record).is_ok_and(|bytes| impossible_choice(&Position::read(bytes)));
+    refusal_to_6(record).or(first(&[(22, chosen)]))
+}
+
+/// Checks 1 to 6.
+pub fn refusal_to_6(record: &[u8]) -> Option<u32> {
     let Ok(bytes) = <&[u8; LENGTH]>::try_from(record) else {
         return Some(1);
     };
@@ -79,6 +85,13 @@ pub fn record_refusal(record: &[u8]) -> Option<u32> {
 
 fn first(checks: &[(u32, bool)]) -> Option<u32> {
     checks.iter().find(|(_, fails)| *fails).map(|(number, _)| *number)
+}
+
+/// Check 22 fails: the choice is free, though a cell is taken and no board is done.
+pub fn impossible_choice(position: &Position) -> bool {
+    let played = position.count(EMPTY) < position.cells.as_flattened().len();
+    let done = position.cells.iter().any(|board| board_state(board) != Board::InPlay);
+    position.target == FREE_CHOICE && played && !done
 }
 
 fn badly_coded(position: &Position) -> bool {
@@ -98,7 +111,7 @@ fn badly_won(position: &Position) -> bool {
     x && o || mover
 }
 
-/// Checks 1 to 7 of replay (`room` is `RECORD_ROOM`) and of legal moves (`MOVES_ROOM`).
+/// Checks 1 to 6, 22 and 7 of replay (`room` is `RECORD_ROOM`) and of legal moves (`MOVES_ROOM`).
 pub fn output_refusal(record: &[u8], output: usize, room: usize) -> Option<u32> {
     record_refusal(record).or(room_refusal(output, room))
 }
@@ -108,7 +121,7 @@ pub fn room_refusal(output: usize, room: usize) -> Option<u32> {
     first(&[(7, output < room)])
 }
 
-/// Checks 1 to 6, 8 to 10 and 21 of search.
+/// Checks 1 to 6, 22, 8 to 10 and 21 of search.
 pub fn search_refusal(record: &[u8], rule: u64, pool: u64, budget: u64, interval: u64, stay: Stay) -> Option<u32> {
     let settings = out_of_range(rule, interval, &[budget]);
     let checks = [(8, pool < 1), (9, pool > LARGEST_POOL), (10, settings), (21, stay.is_refused())];
@@ -132,14 +145,14 @@ pub fn open_cells(position: &Position) -> usize {
     open.flatten().filter(|c| **c == EMPTY).count()
 }
 
-/// Checks 1 to 6, 10 and 16 of the referee.
+/// Checks 1 to 6, 22, 10 and 16 of the referee.
 pub fn referee_refusal(record: &[u8], rule: u64) -> Option<u32> {
     let many = |bytes: &[u8; LENGTH]| open_cells(&Position::read(bytes)) > MOST_OPEN_CELLS;
     let large = <&[u8; LENGTH]>::try_from(record).is_ok_and(many);
     record_refusal(record).or(first(&[(10, rule > LARGEST_RULE), (16, large)]))
 }
 
-/// Checks 1 to 6, 10 for the rule and 17 of a lookup, by whoever calls.
+/// Checks 1 to 6, 22, 10 for the rule and 17 of a lookup, by whoever calls.
 pub fn lookup_refusal(book: &Book, record: &[u8], rule: u64) -> Option<u32> {
     record_refusal(record).or(first(&[(10, rule > LARGEST_RULE), (17, book.is_broken())]))
 }
@@ -149,7 +162,7 @@ pub fn publish_refusal(book: &Book, who: Who, record: &[u8], rule: u64) -> Optio
     caller_refusal(who).or(lookup_refusal(book, record, rule))
 }
 
-/// Check 19, then 1 to 6, 8 to 10, 21, 17 and 18 of an add; `limits` are pool, budget and interval.
+/// Check 19, then 1 to 6, 22, 8 to 10, 21, 17 and 18 of an add; `limits` are pool, budget and interval.
 pub fn add_refusal(book: &Book, who: Who, record: &[u8], rule: u64, limits: [u64; 3], stay: Stay) -> Option<u32> {
     let full = book.count == book.entries() && book.held(Who::Arbiter, record, rule).is_none();
     let [pool, budget, interval] = limits;
@@ -162,8 +175,8 @@ fn caller_refusal(who: Who) -> Option<u32> {
     first(&[(19, who.is_trainer())])
 }
 
-/// The first check of games judged together that fails, and with 2 to 6 the game whose record it refuses, from 0 on: of
-/// the checks of all records the earliest counts, then the lowest game.
+/// The first check of games judged together that fails, and with 2 to 6 and 22 the game whose record it refuses, from 0
+/// on: of the checks of all records the earliest counts, 22 as the last, then the lowest game.
 pub fn games_refusal(call: &Games) -> Option<(u32, u64)> {
     let length = (1, !call.records.len().is_multiple_of(LENGTH));
     let number = (20, !(1..=MOST_GAMES).contains(&call.count()));

@@ -3,7 +3,7 @@
 //! A difference prints the smallest call or list found that shows it, and fails.
 //!
 //! ```text
-//! compare [SEED [COUNT]]    the cases, then records that try every place, then COUNT calls at random
+//! compare [SEED [COUNT]]    the cases, then records that try every place and free choice, then COUNT calls at random
 //! ```
 
 mod shrink;
@@ -11,7 +11,7 @@ mod sides;
 mod tally;
 
 use calls::{Call, Kind};
-use oracle::generate::{self, reading, Random};
+use oracle::generate::{self, choices, reading, Random};
 use sides::Sides;
 use std::process::ExitCode;
 use tally::Tally;
@@ -41,11 +41,12 @@ fn main() -> ExitCode {
     }
 }
 
-/// The oracle's cases, then every record that tries loading place by place, then calls at random until there are
-/// `count` of them.
+/// The oracle's cases, then every record that tries loading place by place or free choice, then calls at random until
+/// there are `count` of them.
 fn first_difference(seed: u64, count: u64, tally: &mut Tally) -> Option<Vec<Call>> {
     let records = reading::records(&mut Random::new(seed));
-    let loads = records.iter().flat_map(|record| reading::lists_of(record));
+    let loads =
+        records.iter().flat_map(|record| reading::lists_of(record)).chain(choices::lists(&mut Random::new(seed)));
     let mut random = Random::new(seed);
     let mut made = 0;
     let generated = std::iter::from_fn(|| {

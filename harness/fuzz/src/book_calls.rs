@@ -1,5 +1,5 @@
 //! What the calls of a book are lent, so that a wrong library can do them otherwise (`wrong_books`, `wrong_marks`,
-//! `wrong_stay`, `wrong_budgets`).
+//! `wrong_stay`, `wrong_budgets`, `wrong_choices`).
 
 use calls::book::ENTRY;
 use calls::record::LENGTH;

@@ -45,7 +45,7 @@ pub fn written(call: &Call, a: &Answered) -> usize {
     }
 }
 
-/// The refusal of checks 1 to 10 and 16 to 21, if one is due, and its index.
+/// The refusal of checks 1 to 10 and 16 to 22, if one is due, and its index.
 fn due(call: &Call, book: &Book) -> Option<(u32, u64)> {
     let number = match call {
         Call::Moves { record, output } => table::output_refusal(record, *output, MOVES_ROOM),
@@ -115,7 +115,7 @@ fn moves(count: u64, output: &[u8]) -> Result<(), String> {
 /// moves leave it as it was.
 fn replayed(record: &[u8], moves: &[u8], output: &[u8]) -> Result<(), String> {
     let after = &output[..LENGTH];
-    must(table::record_refusal(after).is_none(), "the record afterwards passes checks 1 to 6")?;
+    must(table::record_refusal(after).is_none(), "the record afterwards passes checks 1 to 6 and 22")?;
     must(!moves.is_empty() || after == record, "no moves leave the record as it was")?;
     let (before, after) = (position(record), position(after));
     let mut cells = before.cells.iter().flatten().zip(after.cells.iter().flatten());

@@ -1,4 +1,5 @@
-//! What a call of games is lent, so that a wrong library can do it otherwise (`wrong_games`).
+//! What a call of games is lent, so that a wrong library can do it otherwise (`wrong_games`, `wrong_stay`,
+//! `wrong_budgets`, `wrong_game_choices`).
 
 use crate::passes::Passes;
 use crate::search_calls::given;

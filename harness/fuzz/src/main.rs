@@ -4,7 +4,8 @@
 //! the same each time. The first violation is printed with its call, as lines that `uttt` reads, and fails.
 //!
 //! ```text
-//! fuzz [SEED [COUNT [SECONDS]]]    up to COUNT calls, for up to so many seconds, then records that try every place
+//! fuzz [SEED [COUNT [SECONDS]]]    records that try free choice, then up to COUNT calls, for up to so many seconds, then
+//!                                  records that try every place
 //! fuzz wrong                       libraries with one thing wrong: each must be caught
 //! fuzz wrong NUMBER                one of those
 //! ```
@@ -19,6 +20,7 @@ mod games;
 mod guarded;
 mod inputs;
 mod passes;
+mod record_calls;
 mod run;
 mod search_calls;
 mod watch;
@@ -26,6 +28,8 @@ mod wide;
 mod wrong;
 mod wrong_books;
 mod wrong_budgets;
+mod wrong_choices;
+mod wrong_game_choices;
 mod wrong_games;
 mod wrong_marks;
 mod wrong_stay;
@@ -33,7 +37,7 @@ mod wrong_stay;
 use calls::{Book, Call};
 use exports::{Exports, LIBRARY};
 use guarded::Edge;
-use oracle::generate::{reading, Random};
+use oracle::generate::{choices, reading, Random};
 use run::{Answered, Lender};
 use std::collections::BTreeMap;
 use std::process::{Command, ExitCode};
@@ -80,7 +84,8 @@ fn usage() -> ExitCode {
 fn wrong_libraries() -> impl Iterator<Item = (&'static str, Exports)> {
     let of_books = wrong_books::ALL.into_iter().chain(wrong_marks::ALL);
     let of_games = wrong_games::ALL.into_iter().chain(wrong_stay::ALL).chain(wrong_budgets::ALL);
-    wrong::ALL.into_iter().chain(of_books).chain(of_games)
+    let of_choices = wrong_choices::ALL.into_iter().chain(wrong_game_choices::ALL);
+    wrong::ALL.into_iter().chain(of_books).chain(of_games).chain(of_choices)
 }
 
 /// Runs every wrong library in a process of its own; each must end with a violation.
@@ -111,7 +116,8 @@ fn fuzz(exports: &Exports, seed: u64, count: u64, seconds: u64, a_call: u32) -> 
     watch::install();
     let mut tally = Tally::new();
     let mut lender = Lender::new(*exports, a_call);
-    let tried = calls_at_random(&mut lender, seed, count, Duration::from_secs(seconds), &mut tally)
+    let tried = calls_of_free_choice(&mut lender, seed, &mut tally)
+        .and_then(|()| calls_at_random(&mut lender, seed, count, Duration::from_secs(seconds), &mut tally))
         .and_then(|()| calls_place_by_place(&mut lender, seed, &mut tally))
         .and_then(|()| wide::check(exports, a_call));
     match tried {
@@ -131,6 +137,14 @@ fn fuzz(exports: &Exports, seed: u64, count: u64, seconds: u64, a_call: u32) -> 
     }
 }
 
+/// The records that try free choice.
+fn calls_of_free_choice(lender: &mut Lender, seed: u64, tally: &mut Tally) -> Result<(), String> {
+    let mut random = Random::new(seed);
+    let lists = choices::lists(&mut random);
+    lists.iter().try_for_each(|list| tallied(lender, list, &mut random, tally))
+}
+
+/// So many calls beside those that were made before.
 fn calls_at_random(
     lender: &mut Lender,
     seed: u64,
@@ -140,7 +154,8 @@ fn calls_at_random(
 ) -> Result<(), String> {
     let start = Instant::now();
     let mut random = Random::new(seed);
-    while tally.values().sum::<u64>() < count && start.elapsed() <= time {
+    let all = tally.values().sum::<u64>() + count;
+    while tally.values().sum::<u64>() < all && start.elapsed() <= time {
         tallied(lender, &inputs::list(&mut random), &mut random, tally)?;
     }
     Ok(())

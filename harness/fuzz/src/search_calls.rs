@@ -1,5 +1,5 @@
 //! What a search and a full verdict are lent, so that a wrong library can do them otherwise (`wrong_stay`,
-//! `wrong_budgets`).
+//! `wrong_budgets`, `wrong_choices`).
 
 use calls::Stay;
 use uttt::ffi;

@@ -118,16 +118,16 @@ games!(nine, |lent| match lent.count() {
     9.. if lent.length.is_multiple_of(LENGTH) => Asked { length: LENGTH * MOST_GAMES, ..lent }.judge(),
     _ => lent.judge(),
 });
-games_then!(lowest_game, |lent, a| if let 2..=6 = a.code {
+games_then!(lowest_game, |lent, a| if let 2..=6 | 22 = a.code {
     (a.code, a.index) = lent.refused_records()[0];
 });
-games_then!(last_game, |lent, a| if let 2..=6 = a.code {
+games_then!(last_game, |lent, a| if let 2..=6 | 22 = a.code {
     let last = lent.refused_records().into_iter().rfind(|(check, _)| *check == a.code);
     a.index = last.map_or(0, |(_, game)| game);
 });
 games_then!(no_index, |lent, a| a.index = 0);
-games_then!(index_from_one, |lent, a| a.index += u64::from((2..=6).contains(&a.code)));
-games_then!(pool_first, |lent, a| if (2..=6).contains(&a.code) && lent.part() == 0 {
+games_then!(index_from_one, |lent, a| a.index += u64::from(matches!(a.code, 2..=6 | 22)));
+games_then!(pool_first, |lent, a| if matches!(a.code, 2..=6 | 22) && lent.part() == 0 {
     a = refused(8, 0);
 });
 games_then!(whole_by_8, |lent, a| if a.code == 8 && lent.k >= NODE_WORDS {

@@ -3,12 +3,11 @@
 
 use crate::book_calls::{add, false_for_three, lookup, publish, Add, Asked};
 use crate::exports::{Exports, LIBRARY};
-use crate::run::{NODE_BYTES, WORD_BYTES};
+use crate::record_calls::nodes;
 use crate::search_calls::given;
 use calls::book::{ENTRY, MARK};
 use calls::record::LENGTH;
 use calls::table::{lookup_refusal, record_refusal, search_refusal};
-use calls::Book;
 use uttt::ffi;
 
 pub const ALL: [(&str, Exports); 40] = [
@@ -90,13 +89,13 @@ impl Asked {
 
     /// The refusal of a lookup of these.
     unsafe fn refusal(&self) -> Option<u32> {
-        lookup_refusal(&Book { bytes: self.bytes(), count: self.count }, &self.record(), self.rule)
+        lookup_refusal(&self.whole(), &self.record(), self.rule)
     }
 }
 
 impl Add {
     unsafe fn refusal_of_settings(&self) -> Option<u32> {
-        let (nodes, [_, budget, interval]) = ((self.k / (NODE_BYTES / WORD_BYTES)) as u64, self.limits);
+        let (nodes, [_, budget, interval]) = (nodes(self.k), self.limits);
         let stay = given(self.staying, self.margin);
         search_refusal(&self.asked.record(), self.asked.rule, nodes, budget, interval, stay)
     }
@@ -214,7 +213,7 @@ publish_19!(publish_19_last, |lent| lent.refusal());
 publish!(publish_by_anyone, |lent| lent.by_an_arbiter().publish());
 
 add_19!(add_19_after_6, |lent| record_refusal(&lent.asked.record()));
-add_19!(add_19_after_10, |lent| lent.refusal_of_settings().filter(|code| *code > 6));
+add_19!(add_19_after_10, |lent| lent.refusal_of_settings().filter(|code| matches!(code, 8..=10 | 21)));
 add_19!(add_19_after_17, |lent| lent.asked.refusal().filter(|code| *code == 17));
 add!(add_by_anyone, |lent| Add { asked: lent.asked.by_an_arbiter(), ..lent }.add());
 add!(add_searches_19, |lent| {

@@ -186,7 +186,7 @@ full_then!(full_write, |lent, a| if a.code == 21 {
 });
 
 games_21!(before_number, |lent, code| code == 20 && lent.is_bad() && has_no_number(&lent));
-games_21!(before_records, |lent, code| (2..=6).contains(&code) && lent.is_bad());
+games_21!(before_records, |lent, code| matches!(code, 2..=6 | 22) && lent.is_bad());
 games_21!(before_ranges, |lent, code| code == 10 && lent.is_bad());
 games!(after_shares, |lent| match lent.off().judge() {
     a if a.code == 20 => a,

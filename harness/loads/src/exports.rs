@@ -80,7 +80,7 @@ pub fn cells(way: Way, record: &[u8]) -> BenchCells {
     unsafe { cells_export(way)(record.as_ptr(), record.len()) }
 }
 
-/// The record loaded, with checks 1 to 6.
+/// The record loaded, with checks 1 to 6 and 22.
 pub fn load(way: Way, record: &[u8]) -> BenchLoaded {
     // SAFETY: pointer and length belong together, and nothing is written.
     unsafe { load_export(way)(record.as_ptr(), record.len()) }

@@ -37,7 +37,7 @@ const fn group(name: &'static str, check: u32, source: Source) -> Group {
     Group { name, check, source }
 }
 
-pub const GROUPS: [Group; 15] = [
+pub const GROUPS: [Group; 16] = [
     group("accepted, no cell taken", 0, Source::Empty),
     group("accepted, 1 to 9 taken", 0, Source::Taken(1, 9)),
     group("accepted, 10 to 19", 0, Source::Taken(10, 19)),
@@ -53,6 +53,7 @@ pub const GROUPS: [Group; 15] = [
     group("refused 4: a board with lines of both sides", 4, Source::Damaged(&[Damage::BoardWonTwice])),
     group("refused 5: the side to move has a line of boards", 5, Source::Damaged(&[Damage::LinesOfBoards])),
     group("refused 6: the target is done", 6, Source::Damaged(&[Damage::DoneTarget])),
+    group("refused 22: free choice, no board done", 22, Source::Damaged(&[Damage::Choice])),
 ];
 
 impl Group {

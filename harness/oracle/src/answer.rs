@@ -1,7 +1,7 @@
 //! The calls (MANUAL, Calls), answered by the original: replay by `make_move`, legal moves by
 //! `all_moves` (never on a finished position, where there are none: MANUAL, The game), search by
 //! `Prover::prove`, into whose descent staying on a line, which is ours, is patched (`prove::pn::stay`). Refusals 1 to
-//! 10 and 16 to 21 come from `calls::table`. The original has no full verdict, no referee and no agreed opening: the
+//! 10 and 16 to 22 come from `calls::table`. The original has no full verdict, no referee and no agreed opening: the
 //! first is two of its searches and a name of our own (`full`), the others are our own exhaustive value (`value`) and
 //! our own reading of two lists (`opening`) over its moves.
 //! Nor has it a book: lookup, add and publish are written a second time here, plainly and apart from the proved

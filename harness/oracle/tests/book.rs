@@ -50,7 +50,7 @@ fn outcomes(count: usize) -> BTreeMap<String, usize> {
 #[test]
 fn every_answer_is_reached() {
     let seen = outcomes(4_000);
-    let of_record = ["1", "2", "3", "4", "5", "6"];
+    let of_record = ["1", "2", "3", "4", "5", "6", "22"];
     let added = ["8", "9", "10", "21", "17", "18", "True 1", "True 0", "False 1", "False 0", "Unknown 0"];
     let found = ["10", "17", "True", "False", "notheld"];
     let due: [(&str, &[&[&str]]); 6] = [
@@ -74,7 +74,7 @@ fn every_answer_is_reached() {
 #[test]
 fn what_is_stored_is_found() {
     let mut found = 0;
-    for list in lists(1_500).filter(|list| matches!(list[0], BookCall::New { .. })) {
+    for list in lists(1_600).filter(|list| matches!(list[0], BookCall::New { .. })) {
         let mut book = Book::default();
         let mut stored: Vec<(Vec<u8>, u64, Verdict)> = Vec::new();
         for line in list {

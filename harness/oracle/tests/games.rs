@@ -241,11 +241,12 @@ fn refused_records_are_tried() {
     for games in generated(4_000) {
         rests.insert(games.records.len() % LENGTH);
         let refused: BTreeSet<u32> = games.records.chunks_exact(LENGTH).filter_map(record_refusal).collect();
-        if let Some((number @ 2..=6, index)) = games_refusal(&games) {
+        if let Some((number @ (2..=6 | 22), index)) = games_refusal(&games) {
             apart += usize::from(refused.len() > 1);
             numbers.insert((number, index.min(2)));
         }
     }
-    assert_eq!(numbers, (2..=6).flat_map(|number| (0..=2).map(move |index| (number, index))).collect());
+    let checks = (2..=6).chain([22]);
+    assert_eq!(numbers, checks.flat_map(|number| (0..=2).map(move |index| (number, index))).collect());
     assert!(apart > 50 && rests.len() > 5, "{} calls with two checks, {:?}", apart, rests);
 }

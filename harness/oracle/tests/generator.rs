@@ -47,13 +47,13 @@ fn outcomes(kind: Kind) -> BTreeSet<u64> {
 
 #[test]
 fn every_outcome_is_reached() {
-    assert_eq!(outcomes(Kind::Moves), (0..=7).collect());
-    assert_eq!(outcomes(Kind::Replay), (0..=7).chain(11..=15).collect());
-    assert_eq!(outcomes(Kind::Search), (1..=6).chain(8..=10).chain([21]).chain(30..=33).collect());
-    assert_eq!(outcomes(Kind::Full), (1..=6).chain(8..=10).chain([21]).chain(40..=45).collect());
-    assert_eq!(outcomes(Kind::Referee), (0..=6).chain([10, 16]).collect());
+    assert_eq!(outcomes(Kind::Moves), (0..=7).chain([22]).collect());
+    assert_eq!(outcomes(Kind::Replay), (0..=7).chain(11..=15).chain([22]).collect());
+    assert_eq!(outcomes(Kind::Search), (1..=6).chain(8..=10).chain([21, 22]).chain(30..=33).collect());
+    assert_eq!(outcomes(Kind::Full), (1..=6).chain(8..=10).chain([21, 22]).chain(40..=45).collect());
+    assert_eq!(outcomes(Kind::Referee), (0..=6).chain([10, 16, 22]).collect());
     assert_eq!(outcomes(Kind::Sheets), [0, 7].into());
-    assert_eq!(outcomes(Kind::Games), (0..=6).chain([8, 9, 10, 20, 21, SHARES]).collect());
+    assert_eq!(outcomes(Kind::Games), (0..=6).chain([8, 9, 10, 20, 21, 22, SHARES]).collect());
 }
 
 /// How many openings of a hundred end in each way, at least; moves after the game's end come after won and

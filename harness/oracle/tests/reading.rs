@@ -21,17 +21,19 @@ fn positions(list: &[(Vec<u8>, u32)]) -> impl Iterator<Item = (Position, u32)> +
 fn the_list_has_its_length() {
     let records = reading::records(&mut Random::new(1));
     let lists: Vec<_> = records.iter().flat_map(|record| reading::lists_of(record)).collect();
-    assert_eq!((records.len(), lists.len(), lists.iter().flatten().count()), (10_880, 76_160, 163_200));
+    assert_eq!((records.len(), lists.len(), lists.iter().flatten().count()), (10_930, 76_510, 163_950));
 }
 
-/// Refused by each check, and by check 3 with either side to move.
+/// Refused by each check, and by check 3 and check 22 with either side to move.
 #[test]
 fn every_check_refuses_some() {
     let list = list();
     let refusals: BTreeSet<u32> = list.iter().map(|(_, refusal)| *refusal).collect();
-    assert_eq!(refusals, (0..=6).collect());
-    let sides: BTreeSet<u8> = positions(&list).filter(|(_, refusal)| *refusal == 3).map(|(p, _)| p.side).collect();
-    assert_eq!(sides, [0, 1].into());
+    assert_eq!(refusals, (0..=6).chain([22]).collect());
+    for check in [3, 22] {
+        let refused = positions(&list).filter(|(_, refusal)| *refusal == check);
+        assert_eq!(refused.map(|(p, _)| p.side).collect::<BTreeSet<u8>>(), [0, 1].into());
+    }
 }
 
 #[test]
@@ -42,6 +44,7 @@ fn every_length_and_target_is_there() {
     let targets = |refusal| positions(&list).filter(move |(_, r)| *r == refusal).map(|(p, _)| p.target);
     assert!(targets(0).collect::<BTreeSet<u8>>().iter().copied().eq((0..=8).chain([15])));
     assert!(targets(6).collect::<BTreeSet<u8>>().iter().copied().eq(0..=8));
+    assert_eq!(targets(22).collect::<BTreeSet<u8>>(), [15].into());
     let others: BTreeSet<u8> = targets(2).collect();
     assert!((9..=14).all(|target| others.contains(&target)));
 }
@@ -92,10 +95,9 @@ fn every_damage_is_done() {
 
 /// The damage is there; where it is simply taken back, the position is accepted.
 fn is_done(kind: Damage, position: &Position, refusal: u32) -> bool {
-    let free = Position { target: FREE_CHOICE, ..*position };
     match kind {
         Damage::Code => position.count(3) == 1 && one_cell_from_accepted(position),
-        Damage::Target => (9..=14).contains(&position.target) && is_accepted(&free),
+        Damage::Target => (9..=14).contains(&position.target) && accepted_with_a_target(position),
         Damage::LastBit => position.last_bit == 1 && is_accepted(&Position { last_bit: 0, ..*position }),
         Damage::Side => refusal == 3 && is_accepted(&Position { side: 1 - position.side, ..*position }),
         Damage::Cell => refusal == 3 && one_cell_from_accepted(position),
@@ -103,9 +105,16 @@ fn is_done(kind: Damage, position: &Position, refusal: u32) -> bool {
         Damage::LinesOfBoards => [X, O].iter().any(|code| has_line(&position.cells.map(|b| has_line_of(&b, *code)))),
         Damage::DoneTarget => {
             let done = |board: &[u8; 9]| board_state(board) != Board::InPlay;
+            let free = Position { target: FREE_CHOICE, ..*position };
             position.cells.get(position.target as usize).is_some_and(done) && is_accepted(&free)
         }
+        Damage::Choice => refusal == 22 && (0..9).all(|target| is_accepted(&Position { target, ..*position })),
     }
+}
+
+/// Whether some target makes it an accepted position.
+fn accepted_with_a_target(position: &Position) -> bool {
+    (0..9).chain([FREE_CHOICE]).any(|target| is_accepted(&Position { target, ..*position }))
 }
 
 fn is_accepted(position: &Position) -> bool {
@@ -141,7 +150,7 @@ fn every_game_is_refused_for_its_record() {
     }
     let places = |check| seen.iter().filter(|(number, _)| *number == check).count();
     let games: BTreeSet<u64> = seen.iter().map(|(_, game)| *game).collect();
-    assert!(games.into_iter().eq(0..8) && (2..=6).all(|check| places(check) > 4), "{:?}", seen);
+    assert!(games.into_iter().eq(0..8) && (2..=6).chain([22]).all(|check| places(check) > 4), "{:?}", seen);
 }
 
 /// Among the books of accepted records every bit of an entry's record is turned somewhere.

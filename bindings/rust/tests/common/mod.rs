@@ -59,17 +59,18 @@ pub fn d(target: u8) -> Record {
     x_to_move(target, &[of_x, (&[2, 3, 4, 8], &[0, 1, 2], O), (&[0], &[3, 4], O), (&[1], &[3], O)])
 }
 
-/// Records that checks 1 to 6 refuse, in their order.
-pub fn refused_records() -> [Vec<u8>; 6] {
+/// Records that checks 1 to 6 and 22 refuse, in their order, each with the check's number.
+pub fn refused_records() -> [(Vec<u8>, u32); 7] {
     let of_both: (&[usize], &[usize], u8) = (&[0], &[3, 4, 5], O);
     let won: (&[usize], &[usize], u8) = (&[0, 1, 2], &[0, 1, 2], X);
     [
-        vec![],
-        x_to_move(9, &[]).to_vec(),
-        x_to_move(FREE_CHOICE, &[(&[0], &[0], X)]).to_vec(),
-        x_to_move(FREE_CHOICE, &[(&[0], &[0, 1, 2], X), of_both]).to_vec(),
-        x_to_move(FREE_CHOICE, &[won, (&[3, 4, 5], &[0, 1, 3], O)]).to_vec(),
-        d(0).to_vec(),
+        (vec![], 1),
+        (x_to_move(9, &[]).to_vec(), 2),
+        (x_to_move(FREE_CHOICE, &[(&[0], &[0], X)]).to_vec(), 3),
+        (x_to_move(FREE_CHOICE, &[(&[0], &[0, 1, 2], X), of_both]).to_vec(), 4),
+        (x_to_move(FREE_CHOICE, &[won, (&[3, 4, 5], &[0, 1, 3], O)]).to_vec(), 5),
+        (d(0).to_vec(), 6),
+        (x_to_move(FREE_CHOICE, &[(&[0], &[0], X), (&[0], &[1], O)]).to_vec(), 22),
     ]
 }
 

@@ -2,7 +2,7 @@
 use mathlib.Core.Path.{ap, _∙_}
 use native.Mathlib.Omega.{arith}
 use Prim.Native.Nat.{_<_}
-use Rattle.rules.specs.Checks.{loads}
+use Rattle.rules.specs.Checks.{loads-length}
 use Rattle.machine.specs.Machine.{Result}
 use Rattle.prove.specs.Numbers.{verdict, verdictNumber}
 use Rattle.searches.specs.Accepting.{accepts}
@@ -39,7 +39,7 @@ store-requires c κs =
     let start = done .before .before .before .before .before in
     let a = accepts _ _ _ _ (start .pre .0 .none) in
     let few : counted .number .result < 4 = rw (counted .number .ensures) (number-few (verdict (done .search-accepted .result .verdict))) in
-    (loads _ (a .loads) .bytes, start .pre .1, omega (arith, a .rule-most), few)
+    (loads-length _ (a .loads), start .pre .1, omega (arith, a .rule-most), few)
 
 add-t18 : tie.Need-add-t18
 add-t18 c = search needs

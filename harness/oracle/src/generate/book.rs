@@ -1,7 +1,7 @@
 //! Lists of a book's lines: adds, lookups and publishes of a few pairs by arbiters and trainers, over small books that
 //! fill up and over books that are broken, that contradict themselves or have entries past the count.
 
-use super::damaged::damaged;
+use super::damaged::{damaged, damaged_by, Damage};
 use super::margins::{no_margin, stay};
 use super::positions::{accepted, ending, late};
 use super::random::Random;
@@ -48,11 +48,12 @@ impl Pairs {
     fn any(random: &mut Random) -> Pairs {
         let few = random.pick(&[1, 1, 2, 3]);
         let mut records: Vec<Vec<u8>> = (0..few).map(|_| ending(random).write().to_vec()).collect();
-        match random.below(6) {
+        match random.below(7) {
             0 => records.push(damaged(random)),
             1 => records.push(turned(&records[0], random.index(8 * LENGTH))),
             2 => records.push(late(random).write().to_vec()),
             3 => records.push(accepted(random).write().to_vec()),
+            4 => records.push(damaged_by(random, Damage::Choice)),
             _ => (),
         }
         let rules = if random.once_in(3) { vec![0, 1, 2] } else { vec![random.below(3)] };
@@ -106,11 +107,14 @@ fn entries(random: &mut Random, pairs: &Pairs, number: usize) -> Vec<u8> {
     (0..number).flat_map(next).collect()
 }
 
-/// An entry of one of the pairs, most often with a verdict, published or not. Now and then there is something in the
-/// bits that nobody looks at.
+/// An entry of one of the pairs, most often with a verdict, published or not. Now and then check 22 refuses its record,
+/// or there is something in the bits that nobody looks at.
 fn any_entry(random: &mut Random, pairs: &Pairs) -> Vec<u8> {
     let (mut record, mut rule) = pairs.one(random);
     record.resize(LENGTH, 0);
+    if random.once_in(12) {
+        record = damaged_by(random, Damage::Choice);
+    }
     if random.once_in(20) {
         rule = LARGEST_RULE + 1;
     }

@@ -1,10 +1,10 @@
-//! Records that checks 1 to 6 refuse, each made by one or two kinds of damage to an accepted one.
+//! Records that checks 1 to 6 and 22 refuse, each made by one or two kinds of damage to an accepted one.
 //! Which check refuses them is decided in `calls::table`.
 
 use super::positions::{accepted, change, place};
 use super::random::Random;
-use calls::record::{Position, EMPTY, LENGTH, O, X};
-use calls::table::{board_state, Board};
+use calls::record::{Position, EMPTY, FREE_CHOICE, LENGTH, O, X};
+use calls::table::{board_state, impossible_choice, Board};
 
 /// What is done to an accepted position.
 #[derive(Clone, Copy, Debug, PartialEq, Eq)]
@@ -25,10 +25,12 @@ pub enum Damage {
     LinesOfBoards,
     /// A target that is done.
     DoneTarget,
+    /// Free choice with cells taken and no board done.
+    Choice,
 }
 
 impl Damage {
-    pub const ALL: [Damage; 8] = [
+    pub const ALL: [Damage; 9] = [
         Damage::Code,
         Damage::Target,
         Damage::LastBit,
@@ -37,11 +39,12 @@ impl Damage {
         Damage::BoardWonTwice,
         Damage::LinesOfBoards,
         Damage::DoneTarget,
+        Damage::Choice,
     ];
 
-    /// One of them; the last, which can't be done to every position, twice as often.
+    /// One of them; a done target, which can't be had in every position, twice as often.
     fn any(random: &mut Random) -> Damage {
-        Damage::ALL[random.index(9).min(7)]
+        random.pick(&[Damage::ALL.as_slice(), &[Damage::DoneTarget]].concat())
     }
 }
 
@@ -67,6 +70,22 @@ pub fn damaged_position(random: &mut Random) -> Position {
         damage(random, &mut position, kind);
     }
     position
+}
+
+/// After so many positions that a kind of damage leaves as they were, it can't be done to any.
+const IN_VAIN: usize = 10_000;
+
+/// The record of an accepted position after one kind of damage: of the first position drawn that it changes.
+pub fn damaged_by(random: &mut Random, kind: Damage) -> Vec<u8> {
+    for _ in 0..IN_VAIN {
+        let whole = accepted(random);
+        let mut position = whole;
+        damage(random, &mut position, kind);
+        if position != whole {
+            return position.write().to_vec();
+        }
+    }
+    panic!("{:?} has changed none of {} positions", kind, IN_VAIN)
 }
 
 /// As many bytes as a record has, at random.
@@ -98,6 +117,7 @@ pub fn damage(random: &mut Random, position: &mut Position, kind: Damage) {
         Damage::BoardWonTwice => lines_of_both_sides(random, position),
         Damage::LinesOfBoards => lines_of_boards(random, position),
         Damage::DoneTarget => done_target(random, position),
+        Damage::Choice => free_choice(random, position),
     }
 }
 
@@ -139,5 +159,18 @@ fn done_target(random: &mut Random, position: &mut Position) {
     let done = (0..9).map(|i| (start + i) % 9).find(|b| board_state(&position.cells[*b]) != Board::InPlay);
     if let Some(board) = done {
         position.target = board as u8;
+    }
+}
+
+/// Free choice and every done board emptied, or now and then every board, counts made to fit again, if a cell is taken
+/// then and no board done.
+fn free_choice(random: &mut Random, position: &mut Position) {
+    let mut free = Position { target: FREE_CHOICE, ..*position };
+    let every = random.once_in(8);
+    let emptied = free.cells.iter_mut().filter(|board| every || board_state(board) != Board::InPlay);
+    emptied.for_each(|board| *board = [EMPTY; 9]);
+    balance(random, &mut free);
+    if impossible_choice(&free) {
+        *position = free;
     }
 }

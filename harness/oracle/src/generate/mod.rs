@@ -1,9 +1,10 @@
 //! Calls at random, the same for the same seed: records reached by play and accepted ones that no
 //! game reaches, damaged ones, right and wrong moves, pairs of sheets, settings in and out of range.
 //! The lines of a book come as lists (`book`), which hold together; every other call is a list of its own.
-//! Beside them (`reading`) records that try loading place by place.
+//! Beside them records that try loading place by place (`reading`) and free choice (`choices`).
 
 pub mod book;
+pub mod choices;
 mod damaged;
 mod games;
 mod margins;

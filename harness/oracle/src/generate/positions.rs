@@ -45,13 +45,14 @@ pub fn late(random: &mut Random) -> Position {
 /// An accepted position; most of them no game reaches.
 pub fn accepted(random: &mut Random) -> Position {
     loop {
-        let mut position = match random.below(4) {
+        let mut position = match random.below(5) {
             0 => reachable(random),
             1 => scattered(random),
             2 => {
                 let done = random.below(10);
                 composed(random, done)
             }
+            3 => one_done(random),
             _ => ending(random),
         };
         if random.once_in(2) {
@@ -98,10 +99,26 @@ pub fn change(random: &mut Random, position: &mut Position, from: u8, to: u8) {
 
 /// Boards put side by side, about `done` of nine of them done, with counts that fit.
 fn composed(random: &mut Random, done: u64) -> Position {
+    side_by_side(random, |random, _| if random.below(9) < done { done_board(random) } else { open_board(random) })
+}
+
+/// Free choice by one done board alone, which is drawn as often as won; about half of the others are empty.
+pub fn one_done(random: &mut Random) -> Position {
+    let (at, drawn) = (random.index(9), random.once_in(2));
+    side_by_side(random, |random, board| match board {
+        board if board == at && drawn => board_where(random, 9, |state| state == Board::Drawn),
+        board if board == at => done_board_where(random, |state| matches!(state, Board::Won(_))),
+        _ if random.once_in(2) => [EMPTY; 9],
+        _ => open_board(random),
+    })
+}
+
+/// Free choice of boards that are drawn by their number until the counts of cells fit.
+fn side_by_side(random: &mut Random, board: impl Fn(&mut Random, usize) -> [u8; 9]) -> Position {
     loop {
         let mut position = Position::start();
-        for board in position.cells.iter_mut() {
-            *board = if random.below(9) < done { done_board(random) } else { open_board(random) };
+        for (at, cells) in position.cells.iter_mut().enumerate() {
+            *cells = board(random, at);
         }
         match position.count(X) as i64 - position.count(O) as i64 {
             0 => return position,
@@ -124,8 +141,13 @@ pub fn ending(random: &mut Random) -> Position {
 
 /// A won or drawn board.
 fn done_board(random: &mut Random) -> [u8; 9] {
+    done_board_where(random, |state| state != Board::InPlay)
+}
+
+/// A board with three to nine cells taken whose state, that of a done one, passes `wanted`.
+fn done_board_where(random: &mut Random, wanted: fn(Board) -> bool) -> [u8; 9] {
     let filled = 3 + random.index(7);
-    board_where(random, filled, |state| state != Board::InPlay)
+    board_where(random, filled, wanted)
 }
 
 /// A board in play with up to three empty cells, or an empty one now and then.

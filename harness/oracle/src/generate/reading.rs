@@ -1,7 +1,7 @@
 //! Records that try loading place by place: every bit, every code at every cell, every target and length, each kind
 //! of damage. Which of them are refused, and by which check, is decided in `calls::table`.
 
-use super::damaged::{any_bytes, damage, Damage};
+use super::damaged::{any_bytes, damaged_by, Damage};
 use super::positions::{accepted, reached};
 use super::random::Random;
 use crate::load;
@@ -30,8 +30,6 @@ const OF_A_CODE: usize = 4;
 const OF_THREE_CODES: usize = 4;
 const OF_A_DAMAGE: usize = 50;
 const AT_RANDOM: usize = 400;
-/// After so many positions that a kind of damage leaves as they were, it can't be done to any.
-const IN_VAIN: usize = 10_000;
 
 /// All of them, the same for the same numbers.
 pub fn records(random: &mut Random) -> Vec<Vec<u8>> {
@@ -154,17 +152,4 @@ fn with_codes(random: &mut Random, at: usize, codes: &[u8]) -> Vec<u8> {
             return position.write().to_vec();
         }
     }
-}
-
-/// The record of an accepted position after one kind of damage: of the first position drawn that it changes.
-fn damaged_by(random: &mut Random, kind: Damage) -> Vec<u8> {
-    for _ in 0..IN_VAIN {
-        let whole = accepted(random);
-        let mut position = whole;
-        damage(random, &mut position, kind);
-        if position != whole {
-            return position.write().to_vec();
-        }
-    }
-    panic!("{:?} has changed none of {} positions", kind, IN_VAIN)
 }

@@ -10,6 +10,7 @@ use calls::Stay;
 /// range that once was, one that 64 bits would sum to 0 with itself, and the largest number.
 pub const TOO_LARGE: [u64; 5] = [LARGEST_BUDGET + 1, 1 << 32, 1_000_000_000_000, 1 << 63, u64::MAX];
 
+#[derive(Clone, Copy)]
 pub struct Settings {
     pub rule: u64,
     pub pool: u64,
