@@ -10,6 +10,7 @@ pub mod record;
 pub mod stay;
 pub mod table;
 pub mod tool;
+pub mod words;
 
 pub use book::{Book, BookCall, Who};
 pub use games::Games;
