@@ -5,16 +5,16 @@ use mathlib.Core.List.{List, [], _∷_}
 use Prim.Native.Nat.{ℕ, zero, suc, _+_, _*_, _<_, _≤_}
 use native.Mathlib.Nat.{zero-add}
 use native.Mathlib.Omega.{arith}
-use borrow.Author.Tests.{eq-eqb, ne-eqb, ltb-true}
+use borrow.Author.Tests.{ne-eqb, ltb-true}
 use lib.Dec.{eqb, ltb, eqb·zero-suc, eqb·suc-zero}
 use lib.ListN.{getD, length}
 use lib.Seq.{take-all}
-use Rattle.rules.specs.Rules.{Player, Position, mark, all, count, boardStates}
+use Rattle.rules.specs.Rules.{Player, Position, all, count, boardStates}
 use Rattle.rules.specs.Record.{sideBit, impossibleChoice}
 use Rattle.rules.specs.Tests.{both-true}
 use Rattle.game.specs.Masks.{bit, maskOf, nonzero}
 use Rattle.game.specs.Words.{Holds}
-use Rattle.record.specs.Reading.{Coded, Counting}
+use Rattle.record.specs.Reading.{Counting}
 use Rattle.record.specs.Counted.{count-le}
 
 -- no bit is set exactly if every code is 0

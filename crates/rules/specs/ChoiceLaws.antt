@@ -10,7 +10,7 @@ use lib.ListN.{length}
 use Rattle.rules.specs.Rules.{Position, code, all, boardStates, moveError, play, replay}
 use Rattle.rules.specs.Rules.Replayed.{Reached}
 use Rattle.rules.specs.Record.{positionOf, refusalTo6, impossibleChoice, refusal, Accepted}
-use Rattle.rules.specs.Refusals.{refuses, firstRefusal}
+use Rattle.rules.specs.Refusals.{refuses}
 use Rattle.rules.specs.RefusalLaws.{first-refuses, rest-refuses, last-refuses}
 use Rattle.rules.specs.Tests.{both-true, all-at, at-all}
 use Rattle.rules.specs.Boards.{length-states, code-states}

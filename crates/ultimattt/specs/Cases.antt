@@ -1,6 +1,6 @@
 -- The cases of MANUAL, Positions to try, that are proved from the definitions, in one lemma, with ours. Rests on Calls and Searches, on plain's Cases
--- for the records E, W and D and for the plain machine's results, on RoomCases, GamesCases, BudgetCases, StayCases, and on the Cases of stay, meaning, sheets, book, passes, games_checks
--- and cells.
+-- for the records E, W and D and for the plain machine's results, on the rules' Examples for FA, on RoomCases, GamesCases, BudgetCases, ChoiceCases, StayCases, and on the Cases of
+-- stay, meaning, sheets, book, passes, games_checks and cells.
 use mathlib.Core.Path.{_≡_, refl}
 use mathlib.Core.List.{List, [], _∷_, _++_}
 use Prim.Native.Nat.{ℕ}

@@ -1,5 +1,5 @@
 -- `load_bench::load_bit_by_bit` meets its contract: checks 1 to 6, and 22 after them. Assumes nothing.
-use mathlib.Core.Path.{ap, _∙_}
+use mathlib.Core.Path.{_∙_}
 use borrow.Author.Needs.{needs}
 use Rattle.rules.specs.Record.{positionOf, refusal}
 use Rattle.load_bench.proofs.load_bit_by_bit.Statement.{statement}

@@ -1,8 +1,8 @@
 -- `record::check_choice` meets its contract: a refusal by 1 to 6 stays, and otherwise check 22 decides. Assumes nothing.
-use mathlib.Core.Path.{sym, ap, _∙_}
+use mathlib.Core.Path.{sym, _∙_}
 use native.Mathlib.Omega.{arith}
 use borrow.Author.Needs.{needs}
-use Rattle.rules.specs.Refusals.{refuses, firstRefusal}
+use Rattle.rules.specs.Refusals.{firstRefusal}
 use Rattle.rules.specs.RefusalLaws.{first-refuses}
 use Rattle.record.proofs.check_choice.Statement.{statement}
 use Rattle.record.proofs.check_choice.Tie as tie

@@ -1,5 +1,5 @@
 -- `record::impossible_choice` meets its contract: the three conditions, the target first. Assumes nothing.
-use mathlib.Core.Path.{_≡_, refl, sym, _∙_}
+use mathlib.Core.Path.{refl}
 use native.Mathlib.Omega.{arith}
 use borrow.Author.Needs.{needs}
 use Rattle.rules.specs.Rules.{Position}
