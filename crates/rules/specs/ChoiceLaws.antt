@@ -1,4 +1,4 @@
--- Check 22 refuses exactly the choices that can't be, and no legal move leads to one. Rests on Choice, Checks, Plays and Replays.
+-- Check 22 refuses exactly the choices that can't be, and no legal move leads to one. Rests on Choice, Record, Plays, Replays and Roundtrip.
 use mathlib.Core.Bool.{Bool, true, false, not, _&&_, true≢false}
 use mathlib.Core.Path.{_≡_, refl, sym, ap, _∙_, subst}
 use mathlib.Core.List.{List, [], _∷_}

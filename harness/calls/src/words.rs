@@ -1,4 +1,4 @@
-//! What is wrong, in words, by a refusal's number. They stand once, beside the codes of the library's header.
+//! What is wrong, in words, by a refusal's number: the comments beside the codes of the library's header.
 
 const HEADER: &str = include_str!("../../../include/ultimattt.h");
 
