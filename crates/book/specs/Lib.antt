@@ -3,10 +3,3 @@ pub mod Lists
 pub mod BookStatement
 pub mod TrainerStatement
 pub mod Answers
-pub mod Passing
-pub mod Changes
-pub mod Kept
-pub mod Publishing
-pub mod ByCheck
-pub mod Cases
-pub mod TrainerCases

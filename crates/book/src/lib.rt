@@ -1,5 +1,7 @@
 // The calls of a book of verdicts: lookup; add, which searches and stores; and publish, which marks an entry for trainers. A book is a lent buffer of entries and the count of the used ones.
 
+#![tactic(auto)]
+
 ghost use Rattle.std.specs.Prelude.{◌≡◌, ◌+◌, ◌*◌, ◌≤◌, length};
 ghost use Rattle.rules.specs.Record.{position_of};
 ghost use Rattle.rules.specs.Refusals.{refuses};
@@ -17,14 +19,14 @@ use record::Loaded;
 use searches::SearchLimits;
 
 // The answer of lookup: the verdict, 1 True, 2 False, 0 not held; or the check that turned the call back.
-#[derive(Drop)]
+#[derive(Clone, Copy)]
 pub enum LookupOutcome {
     Verdict(u8),
     Refused(u8),
 }
 
 // The answer of add: the verdict of a pair that was held; or a search's, 0 Unknown, and the count after it; or the check that turned the call back.
-#[derive(Drop)]
+#[derive(Clone, Copy)]
 pub enum AddOutcome {
     Held(u8),
     Searched(u8, usize),
@@ -32,7 +34,7 @@ pub enum AddOutcome {
 }
 
 // The answer of publish: the pair's first held entry has the mark; or the pair is not held; or the check that turned the call back.
-#[derive(Drop)]
+#[derive(Clone, Copy)]
 pub enum PublishOutcome {
     Published,
     NotHeld,

@@ -1,5 +1,7 @@
 // The calls without a search: replay, legal moves, and the referee's value of a record.
 
+#![tactic(auto)]
+
 ghost use Rattle.std.specs.Prelude.{◌≡◌, ◌≤◌, length};
 ghost use Rattle.rules.specs.Rules.{Position, legal_moves, replay};
 ghost use Rattle.rules.specs.Record.{position_of};
@@ -27,7 +29,7 @@ pub const LAST_RULE: u64 = 2;
 const MOST_OPEN: usize = 9;
 
 // The answer of replay: the record is written, or a check refused it, or a move is bad, with its index.
-#[derive(Drop)]
+#[derive(Clone, Copy)]
 pub enum Replayed {
     Done,
     Refused(u8),
@@ -35,21 +37,21 @@ pub enum Replayed {
 }
 
 // The answer of legal moves: their count, or the check that turned the call back.
-#[derive(Drop)]
+#[derive(Clone, Copy)]
 pub enum Listed {
     Count(usize),
     Turned(u8),
 }
 
 // The answer of referee: the value for the side to move, or the check that turned the call back.
-#[derive(Drop)]
+#[derive(Clone, Copy)]
 pub enum Refereed {
     Value(bool),
     Declined(u8),
 }
 
 // Moves made one after the other: the result of the last one tried, how many were made (a bad one has that index), and the position after them.
-#[derive(Drop)]
+#[derive(Clone, Copy)]
 pub struct Line {
     pub result: MoveResult,
     pub count: usize,

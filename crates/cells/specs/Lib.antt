@@ -1,10 +1,4 @@
 pub mod RecordWords
-pub mod Cases
 pub mod Reading
-pub mod Marks
-pub mod MoreBoards
-pub mod Parts
-pub mod WordLaws
 pub mod BoardBits
 pub mod Triples
-pub mod CellLaws

@@ -1,5 +1,7 @@
 // The cells of a record's 21 bytes as masks: taken from three words of eight bytes, and (bits.rt) read bit by bit.
 
+#![tactic(auto)]
+
 ghost use Rattle.std.specs.Prelude.{◌≡◌, List, ◌∷◌, ◌++◌, ℕ, ◌+◌, ◌*◌, ◌<◌, ◌≤◌, length};
 ghost use Rattle.rules.specs.Rules.{answers, board};
 ghost use Rattle.cells.specs.RecordWords.{together, words_of, cell_held};
@@ -11,7 +13,7 @@ pub mod bits;
 mod table;
 
 // Codes of two bits, put one after the other, as masks: where they are 1, 2 and 3.
-#[derive(Drop)]
+#[derive(Clone, Copy)]
 pub struct Codes {
     pub x: u16,
     pub o: u16,
@@ -71,7 +73,7 @@ fn word_at(bytes: &[u8], k: usize) -> u64
 }
 
 // A record's three words: those that begin at bytes 0, 8 and 13.
-#[derive(Drop)]
+#[derive(Clone, Copy)]
 pub struct RecordWords {
     pub first: u64,
     pub second: u64,
@@ -144,7 +146,7 @@ fn board_cells(w: RecordWords, triples: &[u32; 64], b: usize) -> Codes
 }
 
 // The cells of nine boards: X's masks in words 0 to 8, O's in 9 to 17, as a position has them. rest is 0 exactly if no code is 3.
-#[derive(Drop)]
+#[derive(Clone, Copy)]
 pub struct Cells {
     pub words: [u16; 23],
     pub rest: u16,

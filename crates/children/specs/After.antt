@@ -9,10 +9,10 @@ use Rattle.std.proofs.lemmas.Bool.{not-true}
 use Rattle.std.proofs.Math.Dec.{eqb}
 use Rattle.rules.specs.Rules.{Player, Position, other, mark, code, any, has_line, state, board, board_states, game_state, board_of, cell_of, move_of, move_error, play}
 use Rattle.rules.specs.Rules.Player.{X, O}
-use Rattle.rules.specs.Boards.{length_board, length_states, code_board, code_states}
-use Rattle.rules.specs.Legal.{legal}
-use Rattle.rules.specs.States.{open_of, mover_state, game_mover}
-use Rattle.rules.specs.Tests.{both_false}
+use Rattle.rules.proofs.Boards.{length_board, length_states, code_board, code_states}
+use Rattle.rules.proofs.Legal.{legal}
+use Rattle.rules.proofs.States.{open_of, mover_state, game_mover}
+use Rattle.rules.proofs.Tests.{both_false}
 use Rattle.game.specs.Masks.{bit, mask, mask_of, nonzero, has_bit, mask_put, mask_lt, full}
 use Rattle.game.specs.Lines.{line_in, line_of}
 use Rattle.game.specs.Words.{Holds, all_board, turned, side_bit_lt, done_lt}

@@ -3,14 +3,14 @@
 use Rattle.std.specs.Prelude.{ℕ, ◌+◌, ◌*◌, ◌<◌, ◌≡◌, true, false, not, []}
 use Rattle.std.proofs.Common.{ap, sym, ◌∙◌, arith, eqb-true}
 use Rattle.rules.specs.Rules.{Player, Position, code, board_states, game_state, board_of, cell_of, move_of, leads, move_error, play}
-use Rattle.rules.specs.Boards.{code_states}
-use Rattle.rules.specs.Legal.{legal, legal_error}
-use Rattle.rules.specs.LegalMoves.{legal_in}
+use Rattle.rules.proofs.Boards.{code_states}
+use Rattle.rules.proofs.Legal.{legal, legal_error}
+use Rattle.rules.proofs.LegalMoves.{legal_in}
 use Rattle.game.specs.Masks.{has_bit}
 use Rattle.game.specs.Cursor.{moves_from}
 use Rattle.machine.specs.Machine.{Unknown}
 use Rattle.plain.specs.Plain.{game}
-use Rattle.plain.specs.Laws.{lawful}
+use Rattle.plain.proofs.Laws.{lawful}
 use Rattle.words.specs.Packed.{view}
 use Rattle.evaluate.specs.Final.{position_verdict}
 use Rattle.children.specs.declared.Outer.{Outer}

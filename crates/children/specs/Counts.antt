@@ -4,7 +4,7 @@ use Rattle.std.proofs.Common.{ap, ◌∙◌, arith, add-zero, eq-eqb}
 use Rattle.std.proofs.Math.Bool.{or-true}
 use Rattle.std.specs.Int.Count.{ones}
 use Rattle.rules.specs.Rules.{Position, code, board, board_states, game_state, leads, playable, legal_moves, count}
-use Rattle.rules.specs.Boards.{code_board, length_board}
+use Rattle.rules.proofs.Boards.{code_board, length_board}
 use Rattle.game.specs.Masks.{mask, mask_of, nonzero, has_bit, mask_rest, ones_mask}
 use Rattle.game.specs.Words.{Holds}
 use Rattle.game.specs.Cursor.{move_at, moves_from, moves_all, moves_hit, moves_skip, moves_end}

@@ -8,8 +8,8 @@ use Rattle.std.proofs.Math.Decide.{ℕ_discrete}
 use Rattle.rules.specs.Rules.{Player, Position, other, state, board, game_state, cell_of, move_error, play, legal_moves, final_value}
 use Rattle.rules.specs.Rules.Player.{X, O}
 use Rattle.rules.specs.Record.{player_of, side_bit, Accepted}
-use Rattle.rules.specs.LegalMoves.{finished_none, unfinished_move, unfinished_some}
-use Rattle.rules.specs.Plays.{target_kept, next_open, turn_passes}
+use Rattle.rules.proofs.LegalMoves.{finished_none, unfinished_move, unfinished_some}
+use Rattle.rules.proofs.Plays.{target_kept, next_open, turn_passes}
 use Rattle.machine.specs.Tree.{INFINITY, bound, leaf}
 use Rattle.machine.specs.Machine.{Verdict, True, False, Unknown}
 use Rattle.plain.specs.Plain.{game}

@@ -4,7 +4,7 @@ use Rattle.std.specs.Prelude.{ℕ, zero, suc, ◌+◌, ◌*◌, ◌-◌, ◌/◌
 use Rattle.std.proofs.Common.{ap, sym, ◌∙◌, arith, add-zero, zero-add, ne_eqb}
 use Rattle.std.proofs.Math.Bool.{and-false, not-not}
 use Rattle.rules.specs.Rules.{Position, code, board, board_states, move_of, board_of, cell_of, leads, playable}
-use Rattle.rules.specs.Boards.{code_board, length_board, length_states}
+use Rattle.rules.proofs.Boards.{code_board, length_board, length_states}
 use Rattle.game.specs.Masks.{mask_of, nonzero, has_bit, has_bit_of}
 use Rattle.game.specs.Cursor.{move_at, moves_from, moves_hit, moves_skip, moves_end}
 

@@ -4,7 +4,7 @@ use Rattle.std.proofs.Common.{◌∙◌}
 use Rattle.rules.specs.Rules.{Position, mark, board}
 use Rattle.rules.specs.Rules.Player.{X, O}
 use Rattle.rules.specs.Record.{side_bit}
-use Rattle.rules.specs.Boards.{length_board}
+use Rattle.rules.proofs.Boards.{length_board}
 use Rattle.game.specs.Masks.{mask, mask_of, nonzero, mask_lt}
 use Rattle.game.specs.Words.{Holds, all_board}
 use Rattle.game.specs.Moves.{both_sides}

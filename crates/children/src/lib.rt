@@ -1,5 +1,7 @@
 // The game's part of a leaf's expansion: how many legal moves the leaf has, and what each child is worth, told without playing its move.
 
+#![tactic(auto)]
+
 ghost use Rattle.std.specs.Prelude.{◌≡◌, false, cond, ◌<◌, ◌≤◌, length, eqb};
 ghost use Rattle.rules.specs.Rules.{Position, mark, board, board_states, game_state, move_of, play, legal_moves};
 ghost use Rattle.rules.specs.Record.{side_bit, player_of, Accepted};
@@ -21,7 +23,7 @@ use game::{GameState, Player};
 use prove::{Bounds, Evaluation};
 
 // What an expansion needs of a position besides its cells: the boards that the mover has won, those that are done, the target and the side to move.
-#[derive(Drop)]
+#[derive(Clone, Copy)]
 pub struct Outer {
     pub won: u16,
     pub done: u16,

@@ -9,7 +9,8 @@ use Rattle.machine.specs.Tree.{Node, Children, none, child, size, least_delta, s
 use Rattle.machine.specs.Machine.{Ancestor}
 use Rattle.machine.specs.Place.{pool_max}
 use Rattle.words.specs.Packed.{View}
-use Rattle.words.specs.Words.{NONE, DELTA, SIBLING, word, slot_some}
+use Rattle.words.specs.Words.{NONE, DELTA, SIBLING, word}
+use Rattle.words.proofs.Words.{slot_some}
 use Rattle.words.specs.Trees.{Part}
 use Rattle.words.specs.Pool.{Line}
 use Rattle.words.specs.Walks.{Walkable}

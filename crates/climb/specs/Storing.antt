@@ -8,16 +8,19 @@ use Rattle.rules.specs.Rules.{Position}
 use Rattle.machine.specs.Game.{Game}
 use Rattle.machine.specs.Tree.{Node, u32_max, none, size, least_delta, sum_phi, solved, proof_of, disproof_of}
 use Rattle.machine.specs.Machine.{State, state, renumber, store}
-use Rattle.machine.specs.Numbers.{open_of}
+use Rattle.machine.proofs.Numbers.{open_of}
 use Rattle.plain.specs.Plain.{game}
-use Rattle.words.specs.Packed.{View, view, bit, packed, and_in, packed_read, Bytes}
-use Rattle.words.specs.Words.{NONE, PHI, DELTA, PACKED, FIRST, word, set_word, Beyond, beyond_trans, only_beyond}
-use Rattle.words.specs.Words as words
+use Rattle.words.specs.Packed.{View, view, bit, packed, and_in, Bytes}
+use Rattle.words.proofs.Packed.{packed_read}
+use Rattle.words.specs.Words.{NONE, PHI, DELTA, PACKED, FIRST, word, set_word, Beyond}
+use Rattle.words.proofs.Words.{beyond_trans, only_beyond}
+use Rattle.words.proofs.Words as words
 use Rattle.words.specs.Freeing.{Freeable}
-use Rattle.words.specs.Pool.{Holding, Holds}
-use Rattle.words.specs.Current.{loose_freeable, loose_freed}
-use Rattle.words.specs.Store.{Renumbered, renumbered, holding_renumbered, holding_cut}
-use Rattle.words.specs.States.{holds_stored}
+use Rattle.words.specs.Pool.{Holding}
+use Rattle.words.specs.Pool.{Holds}
+use Rattle.words.proofs.Current.{loose_freeable, loose_freed}
+use Rattle.words.proofs.Store.{Renumbered, renumbered, holding_renumbered, holding_cut}
+use Rattle.words.proofs.States.{holds_stored}
 use Rattle.node_pool.specs.declared.NodeID.{NodeID}
 use Rattle.node_pool.specs.declared.Pool.{Pool}
 use Rattle.node_pool.specs.Promises.{FreedAll}

@@ -12,16 +12,19 @@ use Rattle.rules.specs.Rules.{Player, Position}
 use Rattle.machine.specs.Game.{Game}
 use Rattle.machine.specs.Tree.{Node, u32_max, Children, none, child, size, least_delta, sum_phi, append, proof_of, disproof_of}
 use Rattle.machine.specs.Machine.{Counts, Ancestor, State, state, renumber, unchanged, store, climb}
-use Rattle.machine.specs.Numbers.{unsolved, tally}
-use Rattle.machine.specs.Place.{Above, inner_at, inner_inner, sizes, size_append}
-use Rattle.machine.specs.Climb.{climb_stay, climb_root, climb_next}
+use Rattle.machine.specs.Numbers.{tally}
+use Rattle.machine.proofs.Numbers.{unsolved}
+use Rattle.machine.specs.Place.{Above, inner_at, sizes}
+use Rattle.machine.proofs.Place.{inner_inner, size_append}
+use Rattle.machine.proofs.Climb.{climb_stay, climb_root, climb_next}
 use Rattle.plain.specs.Plain.{game}
 use Rattle.words.specs.Packed.{view}
 use Rattle.words.specs.Words.{PHI, DELTA, FIRST, SIBLING, word, Slot, Beyond}
 use Rattle.words.specs.Walks.{Walkable}
-use Rattle.words.specs.Pool.{Holds, holding_few}
-use Rattle.words.specs.Steps.{line_root}
-use Rattle.words.specs.States.{holds_up}
+use Rattle.words.specs.Pool.{Holds}
+use Rattle.words.proofs.Pool.{holding_few}
+use Rattle.words.proofs.Steps.{line_root}
+use Rattle.words.proofs.States.{holds_up}
 use Rattle.prover.specs.declared.Prover.{Prover}
 use Rattle.prover.specs.Stands.{Positions, Stands}
 use Rattle.climb.specs.declared.Ascent.{Ascent}

@@ -1,5 +1,7 @@
 // Step 5 of the plain machine, from the expanded leaf upward: port of pn.rs's calc_proof_numbers and update_ancestors.
 
+#![tactic(auto)]
+
 ghost use Rattle.std.specs.Prelude.{◌≡◌, false, cond, ◌&&◌, ◌+◌, ◌<◌, eqb, length};
 ghost use Rattle.words.specs.Words.{PHI, DELTA, word, Slot};
 ghost use Rattle.words.specs.Freeing.{plies};
@@ -11,7 +13,7 @@ use prove::Bounds;
 use prover::Prover;
 
 // A climb on its way: whether it goes on, the current node's numbers as worked out from its children, and the state of the search.
-#[derive(Drop)]
+#[derive(Clone, Copy)]
 pub struct Ascent {
     pub going: bool,
     pub phi: u32,

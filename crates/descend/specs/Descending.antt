@@ -8,12 +8,13 @@ use Rattle.machine.specs.Game.{Game}
 use Rattle.machine.specs.Tree.{solved}
 use Rattle.machine.specs.Machine.{State, Policy, root, down, to_leaf}
 use Rattle.machine.specs.Place.{AtUnsolved}
-use Rattle.machine.specs.Descent.{down_ok, leaf_down, leaf_here}
-use Rattle.machine.specs.Rounds.{at_unsolved}
+use Rattle.machine.proofs.Descent.{down_ok, leaf_down, leaf_here}
+use Rattle.machine.proofs.Rounds.{at_unsolved}
 use Rattle.plain.specs.Plain.{game, policy_of}
-use Rattle.plain.specs.Laws.{lawful, policy_sane}
+use Rattle.plain.proofs.Laws.{lawful, policy_sane}
 use Rattle.words.specs.Packed.{expanded_in}
-use Rattle.words.specs.Words.{PACKED, word, Beyond, beyond_trans}
+use Rattle.words.specs.Words.{PACKED, word, Beyond}
+use Rattle.words.proofs.Words.{beyond_trans}
 use Rattle.prover.specs.declared.Prover.{Prover}
 use Rattle.prover.specs.Stands.{Stands, Searching}
 use Rattle.stay.specs.declared.Stay.{Stay}

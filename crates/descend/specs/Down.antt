@@ -4,26 +4,31 @@ use Rattle.std.proofs.Common.{ap, sym, ◌∙◌, subst, length-set, get_or-set_
 use mathlib.Core.List.{List, ◌∷◌, Memᴰ}
 use native.Mathlib.Omega.{arith}
 use Rattle.rules.specs.Rules.{Position, legal_moves, play, move_error}
-use Rattle.rules.specs.LegalMoves.{in_legal}
+use Rattle.rules.proofs.LegalMoves.{in_legal}
 use Rattle.machine.specs.Game.{Game}
 use Rattle.machine.specs.Tree.{Node, Children, none, child}
 use Rattle.machine.specs.Machine.{State, state, Policy, first_with, choice, remember, down}
-use Rattle.machine.specs.Value.{Lawful}
-use Rattle.machine.specs.Numbers.{inner_of}
-use Rattle.machine.specs.Place.{pool_max, sizes, sizes_of, Choosable, UnsolvedAt, by_moves_at}
-use Rattle.machine.specs.Descent.{choosable, height}
-use Rattle.machine.specs.Standard.{listed_open}
+use Rattle.machine.proofs.Value.{Lawful}
+use Rattle.machine.proofs.Numbers.{inner_of}
+use Rattle.machine.specs.Place.{pool_max, sizes, sizes_of, UnsolvedAt}
+use Rattle.machine.proofs.Place.{Choosable, by_moves_at}
+use Rattle.machine.specs.Descent.{height}
+use Rattle.machine.proofs.Descent.{choosable}
+use Rattle.machine.proofs.Standard.{listed_open}
 use Rattle.plain.specs.Plain.{game, policy_of}
-use Rattle.plain.specs.Laws.{lawful, policy_takes}
+use Rattle.plain.proofs.Laws.{lawful, policy_takes}
 use Rattle.game.specs.Words as game-words
 use Rattle.game.specs.Moves.{Movable}
 use Rattle.words.specs.Packed as packing
-use Rattle.words.specs.Packed.{view, expanded_in, move_in, remembered_in, with_remembered, packed_read, packed_remembered, expanded_yes, expanded_no}
-use Rattle.words.specs.Words.{PHI, PACKED, FIRST, word, set_word, Slot, Agree, Stored, stored, only_beyond}
+use Rattle.words.specs.Packed.{view, expanded_in, move_in, remembered_in, with_remembered}
+use Rattle.words.proofs.Packed.{packed_read, packed_remembered, expanded_yes, expanded_no}
+use Rattle.words.specs.Words.{PHI, PACKED, FIRST, word, set_word, Slot, Agree, Stored}
+use Rattle.words.proofs.Words.{stored, only_beyond}
 use Rattle.words.specs.Trees.{Part}
-use Rattle.words.specs.Walks.{Chosen, chosen_down}
+use Rattle.words.specs.Walks.{Chosen}
+use Rattle.words.proofs.Walks.{chosen_down}
 use Rattle.words.specs.Freeing.{plies}
-use Rattle.words.specs.States.{child_kept, holds_taken}
+use Rattle.words.proofs.States.{child_kept, holds_taken}
 use Rattle.positions.specs.Plies.{Pushed}
 use Rattle.prover.specs.Stands.{Stands, here, positions_same, positions_kept}
 use Rattle.stay.specs.declared.Stay.{Stay}

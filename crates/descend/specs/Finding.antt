@@ -6,10 +6,12 @@ use Rattle.rules.specs.Rules.{Position}
 use Rattle.machine.specs.Tree.{Node, Children, solved}
 use Rattle.machine.specs.Machine.{has_delta, has_move, first_that, first_with, holds_at, within_margin, choice, off, margin}
 use Rattle.machine.specs.Place.{pool_max}
-use Rattle.machine.specs.Standard.{choice_by}
-use Rattle.words.specs.Packed.{View, move_in, packed_read}
+use Rattle.machine.proofs.Standard.{choice_by}
+use Rattle.words.specs.Packed.{View, move_in}
+use Rattle.words.proofs.Packed.{packed_read}
 use Rattle.words.specs.Words.{NONE, PHI, DELTA, PACKED, SIBLING, word, Slot}
-use Rattle.words.specs.Walks.{Standing, standing, Looking, Chosen, chosen_holds, looking_start, looking_walks, looking_next, looking_found, looking_none}
+use Rattle.words.specs.Walks.{Looking, Chosen}
+use Rattle.words.proofs.Walks.{Standing, standing, chosen_holds, looking_start, looking_walks, looking_next, looking_found, looking_none}
 use Rattle.stay.specs.Margin.{steps_in}
 use Rattle.descend.specs.Promises.{Selectable, Selects, Findable, Found, Finds, Tests, Listing, Choosing}
 

@@ -7,7 +7,8 @@ use Rattle.machine.specs.Machine.{has_delta, first_with}
 use Rattle.machine.specs.Place.{pool_max, UnsolvedAt}
 use Rattle.words.specs.Packed.{View}
 use Rattle.words.specs.Words.{NONE, Slot}
-use Rattle.words.specs.Walks.{Standing, siblings, standing, Looking, looking_some, looking_walks, looking_next, looking_found}
+use Rattle.words.specs.Walks.{Looking}
+use Rattle.words.proofs.Walks.{Standing, siblings, standing, looking_some, looking_walks, looking_next, looking_found}
 use Rattle.descend.specs.declared.Listed.{Listed}
 use Rattle.descend.specs.Promises.{Lists, Selectable, Selects}
 

@@ -1,5 +1,7 @@
 // Step 2 of the plain machine: from the current node down to a leaf. Port of pn.rs's select_most_proving; staying on a line is added.
 
+#![tactic(auto)]
+
 ghost use Rattle.std.specs.Prelude.{◌≡◌, true, false, ◌<◌, get_or};
 ghost use Rattle.machine.specs.Tree.{solved};
 ghost use Rattle.machine.specs.Machine.{root};
@@ -18,7 +20,7 @@ use prover::Prover;
 use stay::Stay;
 
 // What select reads of a child: its delta, and the next one listed.
-#[derive(Drop)]
+#[derive(Clone, Copy)]
 struct Listed {
     delta: u32,
     next: NodeID,
@@ -99,7 +101,7 @@ fn choose(words: &[u32], first: NodeID, phi: u32, packed: u32, stay: Stay) -> No
 }
 
 // The current node's number and its packed word.
-#[derive(Drop)]
+#[derive(Clone, Copy)]
 struct Current {
     id: NodeID,
     packed: u32,

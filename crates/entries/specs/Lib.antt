@@ -1,10 +1,4 @@
 pub mod Entries
 pub mod Published
-pub mod Buffers
-pub mod Finding
-pub mod Trainers
-pub mod Placing
-pub mod Marks
 pub mod Scanning
 pub mod SameWords
-pub mod Storing

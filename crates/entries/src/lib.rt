@@ -1,5 +1,7 @@
 // The entries of a book of verdicts in a lent buffer: the scan for a pair of a record and a rule, the storing of a new entry, and the published mark.
 
+#![tactic(auto)]
+
 ghost use Rattle.std.specs.Prelude.{◌≡◌, ◌&&◌, ◌+◌, ◌*◌, ◌≤◌, ◌<◌, length, drop};
 ghost use Rattle.entries.specs.Entries.{rule_bits, is_trainer, caller_of, may_read, entry_of, entries, has_verdict, same_bytes, holds_rule, answers, find, place};
 ghost use Rattle.entries.specs.Entries.{new_entry, storing, with_entries, with_mark, marking};
@@ -12,7 +14,7 @@ const RECORD: usize = 21;
 pub const ENTRY: usize = 22;
 
 // Who is calling.
-#[derive(Drop)]
+#[derive(Clone, Copy)]
 pub enum Caller {
     Arbiter,
     Trainer,

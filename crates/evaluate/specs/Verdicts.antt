@@ -5,7 +5,7 @@ use Rattle.std.specs.Prelude.{Bool, [], ℕ, eqb}
 use Rattle.std.proofs.Math.Bool.{true, false, cond, false≢true}
 use borrow.Author.Tests.{eqb-true}
 use Rattle.rules.specs.Rules.{Player, Position, game_state, legal_moves, final_value}
-use Rattle.rules.specs.LegalMoves.{finished_none}
+use Rattle.rules.proofs.LegalMoves.{finished_none}
 use Rattle.machine.specs.Machine.{True, False, Unknown}
 use Rattle.evaluate.specs.Final.{position_verdict}
 

@@ -1,6 +1,8 @@
 // What a finished position is worth, ported from `evaluate` of pn.rs: for the root, for children and for the referee. The attacker is the root's side: True is
 // its value.
 
+#![tactic(auto)]
+
 ghost use Rattle.std.specs.Prelude.{◌≡◌, cond};
 ghost use Rattle.rules.specs.Rules.{Position, same, drawn};
 ghost use Rattle.rules.specs.Record.{player_of};

@@ -4,7 +4,7 @@ use Rattle.std.proofs.Math.Path.{refl, ap}
 use Rattle.std.proofs.Common.{sym, ◌∙◌, inl, inr, arith, eq-eqb}
 use Rattle.std.proofs.Math.Dec.{eqb}
 use Rattle.std.proofs.lemmas.Bool.{not-true}
-use Rattle.rules.specs.Roundtrip.{side_back}
+use Rattle.rules.proofs.Roundtrip.{side_back}
 use Rattle.rules.specs.Rules.{Player, Position, mark, code, board, board_states, game_state, board_of, move_of, move_error, play}
 use Rattle.rules.specs.Record.{side_bit, player_of}
 use Rattle.game.specs.Masks.{mask, mask_of, nonzero, has_bit}

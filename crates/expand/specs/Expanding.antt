@@ -5,19 +5,21 @@ use Rattle.std.proofs.Common.{◌∙◌, subst, arith, eq-eqb}
 use mathlib.Core.List.{List, []}
 use Rattle.std.proofs.Math.Bool.{true, false}
 use Rattle.rules.specs.Rules.{Position, game_state, legal_moves}
-use Rattle.rules.specs.Legal.{legal}
-use Rattle.rules.specs.LegalMoves.{in_legal}
+use Rattle.rules.proofs.Legal.{legal}
+use Rattle.rules.proofs.LegalMoves.{in_legal}
 use Rattle.game.specs.Words.{Holds}
 use Rattle.game.specs.Cursor.{moves_from, moves_all}
 use Rattle.machine.specs.Game.{Game}
 use Rattle.machine.specs.Tree.{Node, u32_max, Children, none, size, least_delta, sum_phi}
 use Rattle.machine.specs.Machine.{live, make, children, opened, expand}
 use Rattle.plain.specs.Plain.{game}
-use Rattle.words.specs.Packed.{View, bit, and_in, expanded_in, view, packed_read}
-use Rattle.words.specs.Words.{NONE, PACKED, FIRST, word, set_word, Slot, beyond_trans, Stored, stored, slot_long, only_trans, only_beyond}
+use Rattle.words.specs.Packed.{View, bit, and_in, expanded_in, view}
+use Rattle.words.proofs.Packed.{packed_read}
+use Rattle.words.specs.Words.{NONE, PACKED, FIRST, word, set_word, Slot, Stored}
+use Rattle.words.proofs.Words.{beyond_trans, stored, slot_long, only_trans, only_beyond}
 use Rattle.words.specs.Pool.{Holding}
-use Rattle.words.specs.Store.{holding_opened}
-use Rattle.words.specs.States.{holds_expanded}
+use Rattle.words.proofs.Store.{holding_opened}
+use Rattle.words.proofs.States.{holds_expanded}
 use Rattle.prover.specs.declared.Prover.{Prover}
 use Rattle.prover.specs.Stands.{Stands, here, positions_same}
 use Rattle.children.specs.declared.Outer.{Outer}

@@ -13,17 +13,19 @@ use Rattle.machine.specs.Game.{Game}
 use Rattle.machine.specs.Tree.{Node, leaf, u32_max, Children, none, child, size, least_delta, sum_phi}
 use Rattle.machine.specs.Machine.{Verdict, Ancestor, make, children}
 use Rattle.machine.specs.Place.{pool_max, size_above}
-use Rattle.machine.specs.Rounds.{make_last, make_next}
+use Rattle.machine.proofs.Rounds.{make_last, make_next}
 use Rattle.plain.specs.Plain.{game}
-use Rattle.plain.specs.Laws.{lawful}
+use Rattle.plain.proofs.Laws.{lawful}
 use Rattle.prove.specs.Numbers.{verdict_number, Pair}
 use Rattle.prove.specs.declared.Bounds.{Bounds}
 use Rattle.words.specs.Packed.{pack, bit, view, packed}
-use Rattle.words.specs.Words.{capacity, Beyond, beyond_trans}
+use Rattle.words.specs.Words.{capacity, Beyond}
+use Rattle.words.proofs.Words.{beyond_trans}
 use Rattle.words.specs.Free.{Spare}
 use Rattle.words.specs.Freeing.{plies}
-use Rattle.words.specs.Pool.{Holding, holding_asks, holding_few}
-use Rattle.words.specs.Making.{holding_made}
+use Rattle.words.specs.Pool.{Holding}
+use Rattle.words.proofs.Pool.{holding_asks, holding_few}
+use Rattle.words.proofs.Making.{holding_made}
 use Rattle.node_pool.specs.declared.AllocedNode.{AllocedNode}
 use Rattle.node_pool.specs.Promises.{Alloced}
 use Rattle.children.specs.Leaves.{LeafBounds}

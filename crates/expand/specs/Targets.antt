@@ -2,8 +2,8 @@
 use Rattle.std.specs.Prelude.{◌≡◌, refl, List, [], ◌⊎◌, Bool, true, false, ◌||◌, ℕ, ◌+◌, ◌*◌, ◌≤◌, ◌<◌, eqb}
 use Rattle.std.proofs.Common.{ap, ◌∙◌, inl, inr, arith, eqb-true}
 use Rattle.rules.specs.Rules.{board_of, leads, move_error}
-use Rattle.rules.specs.Boards.{code_states}
-use Rattle.rules.specs.Legal.{legal}
+use Rattle.rules.proofs.Boards.{code_states}
+use Rattle.rules.proofs.Legal.{legal}
 use Rattle.game.specs.Masks.{has_bit}
 use Rattle.game.specs.Words.{Holds}
 use Rattle.game.specs.Cursor.{moves_from, moves_end}

@@ -1,6 +1,8 @@
 // Step 4 of the plain machine, ported from `expand` of pn.rs: a leaf's children are made in move order, up to the first that its mover has lost, and are listed
 // last made first.
 
+#![tactic(auto)]
+
 ghost use Rattle.std.specs.Prelude.{◌≡◌, [], cond, ◌+◌, ◌*◌, ◌≤◌, ◌<◌, min, eqb};
 ghost use Rattle.machine.specs.Place.{pool_max};
 ghost use Rattle.words.specs.Packed.{expanded_in};
@@ -24,7 +26,7 @@ use prover::Prover;
 
 // The children made so far: the head of the freed nodes, how many numbers have been used, how many children there are, the last made,
 // and the numbers that they give their parent. Ended: the last made has delta 0.
-#[derive(Drop)]
+#[derive(Clone, Copy)]
 pub struct Made {
     pub head: NodeID,
     pub used: u32,
@@ -52,7 +54,7 @@ impl Made {
 }
 
 // What all children of a leaf share: where its position stands, the rule, the attacker, who is the root's side, and whether the other side is to move at them.
-#[derive(Drop)]
+#[derive(Clone, Copy)]
 pub struct Parent {
     pub base: usize,
     pub rule: u64,
@@ -84,7 +86,7 @@ fn add_child(words: &mut [u32], m: Made, mv: Move, value: Evaluation, and: bool)
 }
 
 // What changes while open children are made: the head of the freed nodes, how many numbers have been used, how many children there are, and the last made.
-#[derive(Drop)]
+#[derive(Clone, Copy)]
 pub struct Opened {
     pub head: NodeID,
     pub used: u32,
@@ -255,7 +257,7 @@ fn make_children(
 }
 
 // The search's state with the leaf expanded, and the numbers that its children give it.
-#[derive(Drop)]
+#[derive(Clone, Copy)]
 pub struct Expanded {
     pub prover: Prover,
     pub phi: u32,

@@ -2,8 +2,8 @@
 use Rattle.std.specs.Prelude.{ℕ, ◌+◌, ◌*◌, ◌≡◌, true, false, cond, not, ◌&&◌, eqb, ltb}
 use Rattle.std.proofs.Common.{sym, ap, ◌∙◌, arith, ltb-true}
 use Rattle.rules.specs.Rules.{Position, code, board_states, game_state, board_of, cell_of, leads, move_error}
-use Rattle.rules.specs.Tests.{both_true}
-use Rattle.rules.specs.Boards.{code_states}
+use Rattle.rules.proofs.Tests.{both_true}
+use Rattle.rules.proofs.Boards.{code_states}
 use Rattle.game.specs.Numbers.{error_number, result_number}
 use Rattle.game.specs.declared.MoveError.{MoveError}
 use Rattle.game.specs.declared.MoveError.TheVariants.{OutOfBounds, GameOver, WonBoard, WrongBoard, NotEmpty}

@@ -2,7 +2,7 @@
 use Rattle.std.specs.Prelude.{ℕ, ◌<◌, ◌≡◌, Bool, List, length, get_or, eqb}
 use Rattle.std.proofs.Common.{ap, ◌∙◌, arith, zero-add}
 use Rattle.rules.specs.Rules.{code, answers, all, any, lines, has_line}
-use Rattle.rules.specs.Answers.{answers_at}
+use Rattle.rules.proofs.Answers.{answers_at}
 use Rattle.game.specs.Masks.{bit, mask, has_bit, has_bit_of}
 
 -- a line whose places all pass a test

@@ -5,7 +5,7 @@ use Rattle.std.proofs.Math.Nat.{pow-succ', pow-zero, div-div-eq-div-mul}
 use Rattle.std.specs.Int.Count.{ones, ones_step}
 use Rattle.std.proofs.Math.Dec.{eqb-zero-suc, eqb-suc-zero}
 use Rattle.rules.specs.Rules.{code, all, any, count}
-use Rattle.rules.specs.Tests.{both_true}
+use Rattle.rules.proofs.Tests.{both_true}
 
 -- 1 if the test is true
 abbrev pub bit : Bool → ℕ

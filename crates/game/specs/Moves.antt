@@ -7,11 +7,11 @@ use Rattle.std.proofs.Math.Decide.{ℕ_discrete}
 use Rattle.rules.specs.Rules.{Player, Position, other, mark, code, all, any, state, board, board_states, board_of, cell_of, move_error, play}
 use Rattle.rules.specs.Rules.Player.{X, O}
 use Rattle.rules.specs.Record.{side_bit}
-use Rattle.rules.specs.Boards.{length_board, length_states, code_board, code_states}
-use Rattle.rules.specs.Legal.{legal}
-use Rattle.rules.specs.Tests.{both_true}
-use Rattle.rules.specs.States.{mover_state, mark_apart, board_mover, board_never, played_board, kept_board, played_states}
-use Rattle.rules.specs.Plays.{length_played, codes_kept, target_states, turn_passes}
+use Rattle.rules.proofs.Boards.{length_board, length_states, code_board, code_states}
+use Rattle.rules.proofs.Legal.{legal}
+use Rattle.rules.proofs.Tests.{both_true}
+use Rattle.rules.proofs.States.{mover_state, mark_apart, board_mover, board_never, played_board, kept_board, played_states}
+use Rattle.rules.proofs.Plays.{length_played, codes_kept, target_states, turn_passes}
 use Rattle.game.specs.Masks.{bit, mask, mask_of, nonzero, has_bit, has_bit_of, mask_put, mask_sum, full}
 use Rattle.game.specs.Lines.{line_in, line_of}
 use Rattle.game.specs.Words.{Holds, all_board, side_bit_lt, nine_bits}

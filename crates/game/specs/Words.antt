@@ -8,8 +8,8 @@ use Rattle.std.proofs.Math.Bool.{cond, not-not}
 use Rattle.rules.specs.Rules.{Player, Position, mark, code, answers, all, any, has_line, state, board, board_states, game_state}
 use Rattle.rules.specs.Rules.Player.{X, O}
 use Rattle.rules.specs.Record.{side_bit}
-use Rattle.rules.specs.Tests.{both_true, all_at}
-use Rattle.rules.specs.Boards.{length_board, length_states, code_board}
+use Rattle.rules.proofs.Tests.{both_true, all_at}
+use Rattle.rules.proofs.Boards.{length_board, length_states, code_board}
 use Rattle.game.specs.Masks.{mask, mask_of, nonzero, has_bit, mask_lt, mask_sum, has_bit_of, full}
 use Rattle.game.specs.Lines.{line_in, line_of}
 

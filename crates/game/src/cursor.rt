@@ -9,13 +9,13 @@ ghost use Rattle.game.specs.Cursor.{move_at, moves_from, Stepped};
 use crate::{Move, MoveResult};
 
 // The legal moves in move order, as a cursor by value over the 81 cells: at is the next to look at.
-#[derive(Drop)]
+#[derive(Clone, Copy)]
 pub struct MoveIterator {
     pub at: usize,
 }
 
 // A step of the cursor: a move and the cursor after it, or the end.
-#[derive(Drop)]
+#[derive(Clone, Copy)]
 pub enum Step {
     Next(Move, MoveIterator),
     End,

@@ -1,5 +1,7 @@
 // The game, ported from game.rs: its types, the table of lines, and a position in words that moves are made on.
 
+#![tactic(auto)]
+
 ghost use Rattle.std.specs.Prelude.{◌≡◌, cond, not, ◌&&◌, ◌+◌, ◌-◌, ◌*◌, ◌^◌, ◌<◌, ◌≤◌, length, get_or, eqb, ltb};
 ghost use Rattle.rules.specs.Rules.{Position, board_states, game_state, board_of, cell_of, move_of, leads, move_error, code};
 ghost use Rattle.game.specs.Numbers.{player_number, cell_number, state_number, result_number};
@@ -12,7 +14,7 @@ ghost use Rattle.game.specs.Moves.{Movable, Moved, Planned, Tried, stored};
 pub mod cursor;
 mod table;
 
-#[derive(Drop)]
+#[derive(Clone, Copy)]
 pub enum Player {
     X,
     O,
@@ -29,13 +31,13 @@ impl Player {
     }
 }
 
-#[derive(Drop)]
+#[derive(Clone, Copy)]
 pub enum CellState {
     Empty,
     Played(Player),
 }
 
-#[derive(Drop)]
+#[derive(Clone, Copy)]
 pub enum GameState {
     InPlay,
     Drawn,
@@ -55,7 +57,7 @@ impl GameState {
 }
 
 // A move: board in the high four bits, cell in the low four.
-#[derive(Drop)]
+#[derive(Clone, Copy)]
 pub struct Move(pub u8);
 
 impl Move {
@@ -86,7 +88,7 @@ impl Move {
     }
 }
 
-#[derive(Drop)]
+#[derive(Clone, Copy)]
 pub enum MoveError {
     OutOfBounds,
     GameOver,
@@ -96,7 +98,7 @@ pub enum MoveError {
 }
 
 // In place of the Rust's Result<(), MoveError>.
-#[derive(Drop)]
+#[derive(Clone, Copy)]
 pub enum MoveResult {
     Ok,
     Err(MoveError),
@@ -278,7 +280,7 @@ pub fn check_move(table: &[u8; 512], words: &[u16], base: usize, m: Move) -> Mov
 }
 
 // What a board's end adds to the masks of boards: its own bit, won or drawn, or nothing.
-#[derive(Drop)]
+#[derive(Clone, Copy)]
 pub struct BoardEnd {
     pub won: u16,
     pub drawn: u16,
@@ -307,7 +309,7 @@ fn target_after(done: u16, c: usize) -> u16
 }
 
 // What a move stores: the mover's side and cells of the board, the boards that it has won, the drawn boards, and the reply's target.
-#[derive(Drop)]
+#[derive(Clone, Copy)]
 pub struct Stores {
     pub side: usize,
     pub mine: u16,
@@ -375,13 +377,13 @@ pub fn inplace_move(table: &[u8; 512], words: &mut [u16], base: usize, m: Move) 
 }
 
 // A position by value.
-#[derive(Drop)]
+#[derive(Clone, Copy)]
 pub struct Game {
     pub words: [u16; 23],
 }
 
 // A move's result, and the position after it; the position as it was after an error.
-#[derive(Drop)]
+#[derive(Clone, Copy)]
 pub struct Made {
     pub result: MoveResult,
     pub game: Game,

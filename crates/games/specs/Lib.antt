@@ -4,8 +4,3 @@ pub mod GamesStatement
 pub mod Answers
 pub mod Parts
 pub mod Playing
-pub mod FirstPasses
-pub mod SecondPasses
-pub mod Calling
-pub mod Promising
-pub mod UnknownGames

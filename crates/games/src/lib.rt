@@ -1,5 +1,7 @@
 // Up to eight games judged together, out of one allowance of expansions, in parts of one pool: the two passes, and the call.
 
+#![tactic(auto)]
+
 ghost use Rattle.std.specs.Prelude.{◌≡◌, ℕ, length};
 ghost use Rattle.rules.specs.Rules.{Position};
 ghost use Rattle.pn.specs.Results.{result_of};
@@ -34,7 +36,7 @@ fn settings_of(c: Common, budget: u64) -> Settings
 }
 
 // The games after the first pass, and what is unspent.
-#[derive(Drop)]
+#[derive(Clone, Copy)]
 pub struct FirstPass {
     pub kept: [Kept; MOST_GAMES],
     pub unspent: u64,
@@ -123,7 +125,7 @@ fn second_pass(
 }
 
 // The answer: 0 or the number of the refusal; the game that it names, or 0; how many games there are; their results, and zeros past them.
-#[derive(Drop)]
+#[derive(Clone, Copy)]
 pub struct JudgedGames {
     pub code: u8,
     pub index: usize,

@@ -1,5 +1,7 @@
 // The checks of a call that judges up to eight games: their number, their records, and the pool, settings and shares.
 
+#![tactic(auto)]
+
 ghost use Rattle.std.specs.Prelude.{◌≡◌, List, ◌∷◌, ℕ, suc, ◌*◌, ◌≤◌, ◌<◌, length};
 ghost use Rattle.rules.specs.Rules.{answers};
 ghost use Rattle.searches.specs.Searches.{budget_most};
@@ -19,7 +21,7 @@ pub const LEAST_GAMES: usize = 1;
 pub const MOST_GAMES: usize = 8;
 
 // What is common to all games.
-#[derive(Drop)]
+#[derive(Clone, Copy)]
 pub struct Common {
     pub rule: u64,
     pub limit: u64,
@@ -42,7 +44,7 @@ pub fn check_number(bytes: &[u8]) -> u8
 }
 
 // The earliest check that refuses a record, or 0, and the lowest game whose record it refuses.
-#[derive(Drop)]
+#[derive(Clone, Copy)]
 pub struct Early {
     pub code: u8,
     pub index: usize,
@@ -89,7 +91,7 @@ pub fn earliest(bytes: &[u8], n: usize) -> Early
 }
 
 // Whether one of some shares is above the range, and otherwise their sum.
-#[derive(Drop)]
+#[derive(Clone, Copy)]
 pub struct Sum {
     pub above: bool,
     pub total: u64,

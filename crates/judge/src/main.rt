@@ -1,6 +1,8 @@
 // Reads a record and a rule byte from standard input and writes what a search of it gives, in one line. What is written for what was read is the contract of
 // printed::judge_line; no contract can say what a call of C reads or writes.
 
+#![tactic(auto)]
+
 use libc::{STDIN_FILENO, STDOUT_FILENO};
 
 // An input that fills the buffer has more than 22 bytes, however many follow.

@@ -3,6 +3,9 @@
 // and 14, a last bit 1; by 3 one X with X to move, none with O to move, two X with O to move; by 4 a board with two lines; by 5 a line of boards of the side to
 // move, one of both sides; by 6 D with target 0; by 2 a target 9 with rule 3; by 22 E with first byte FA; E with first byte 82, which is accepted; an open game after
 // 44 moves under rule 1, answered with the last nodes of the pool; and one after 47 moves under rule 0, which runs short. After them come pairs of searches (pairs.rt).
+
+#![tactic(auto)]
+
 mod pairs;
 
 use libc::{STDIN_FILENO, STDOUT_FILENO};

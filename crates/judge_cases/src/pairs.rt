@@ -15,7 +15,7 @@ const NO_LIMIT: u64 = 18446744073709551615;
 const INTERVAL: u64 = 10000;
 
 // What one search of a pair is given.
-#[derive(Drop)]
+#[derive(Clone, Copy)]
 struct Search {
     nodes: usize,
     limit: u64,

@@ -1,5 +1,7 @@
 // Records read in both ways, for the bench that times them. No crate of the product stands on this one.
 
+#![tactic(auto)]
+
 ghost use Rattle.std.specs.Prelude.{◌≡◌, ◌<◌, ◌≤◌, length, replicate};
 ghost use Rattle.rules.specs.Record.{position_of, refusal_to6, refusal};
 ghost use Rattle.game.specs.Words.{Holds};
@@ -15,7 +17,7 @@ const LAST_BIT: usize = 167;
 
 // The cells of a record as C has them: X's nine masks, O's, and five words without a meaning; rest is 0 exactly if no code is 3.
 #[repr(C)]
-#[derive(Drop)]
+#[derive(Clone, Copy)]
 pub struct BenchCells {
     pub words: [u16; 23],
     pub rest: u16,
@@ -87,7 +89,7 @@ fn load_bit_by_bit(bytes: &[u8]) -> Loaded
 
 // A load as C has it: 0 and the position's words, or the number of the check that refuses the record.
 #[repr(C)]
-#[derive(Drop)]
+#[derive(Clone, Copy)]
 pub struct BenchLoaded {
     pub code: u32,
     pub words: [u16; 23],

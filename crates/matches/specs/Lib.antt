@@ -1,5 +1,1 @@
 pub mod Matches
-pub mod MatchCases
-pub mod Looking
-pub mod Playing
-pub mod Wins

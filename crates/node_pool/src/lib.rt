@@ -1,5 +1,7 @@
 // The pool of nodes, ported from node_pool.rs with the Node of pn.rs: five words a node in a lent slice.
 
+#![tactic(auto)]
+
 ghost use Rattle.std.specs.Prelude.{◌≡◌, not, ◌+◌, ◌-◌, ◌≤◌, ◌<◌, length, eqb};
 ghost use Rattle.rules.specs.Rules.{Position};
 ghost use Rattle.prove.specs.Numbers.{number};
@@ -46,7 +48,7 @@ pub const NO_NODE: u32 = 4294967295;
 pub const PLIES: usize = 82;
 
 // A node's number.
-#[derive(Drop)]
+#[derive(Clone, Copy)]
 pub struct NodeID(pub u32);
 
 impl NodeID {
@@ -200,7 +202,7 @@ pub fn set_expanded(words: &mut [u32], id: NodeID)
 }
 
 // The head of the freed nodes, how many numbers have been used, and the counts.
-#[derive(Drop)]
+#[derive(Clone, Copy)]
 pub struct Pool {
     pub head: NodeID,
     pub used: u32,
@@ -226,7 +228,7 @@ impl Pool {
 }
 
 // A node that was taken, and what is left: the head of the freed nodes, and how many numbers have been used.
-#[derive(Drop)]
+#[derive(Clone, Copy)]
 pub struct AllocedNode {
     pub id: NodeID,
     pub head: NodeID,

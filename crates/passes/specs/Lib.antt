@@ -1,4 +1,3 @@
 -- The definitions of the two passes, then computed cases, then the laws.
 pub mod Passes
-pub mod Cases
 pub mod Laws

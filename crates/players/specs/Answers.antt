@@ -27,10 +27,3 @@ report_of r = report r.x_wins r.o_wins r.draws r.expanded
 abbrev pub simulated : Simulated → SimulateOutcome
 simulated (Reported r) = simulate_outcome 0 0 (report_of r)
 simulated (Refused n) = simulate_outcome n 0 (report 0 0 0 0)
-
-pub settings_x : (c : Players) (n : ℕ) → n ≡ 0 → settings_for c X ≡ settings_for c (player_of n)
-settings_x c n e = rw e
-
-pub settings_o : (c : Players) (n : ℕ) → (n ≢ 0) → settings_for c O ≡ settings_for c (player_of n)
-settings_o c zero z = absurd (z refl)
-settings_o c (suc n) z = refl

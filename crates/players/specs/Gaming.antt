@@ -8,9 +8,10 @@ use Rattle.game.specs.Words.{Holds, Held}
 use Rattle.game.specs.Moves.{Movable}
 use Rattle.matches.specs.Matches as matches
 use Rattle.matches.specs.Matches.{Searcher, turn, play_game}
-use Rattle.matches.specs.Playing.{game_over, turn_error, turn_accepted, turn_less, game_on, game_most}
+use Rattle.matches.proofs.Playing.{game_over, turn_error, turn_accepted, turn_less, game_on, game_most}
 use Rattle.referee.specs.Turns.{empty_in, empty_is}
-use Rattle.words.specs.Words.{Beyond, beyond_trans}
+use Rattle.words.specs.Words.{Beyond}
+use Rattle.words.proofs.Words.{beyond_trans}
 use Rattle.searches.specs.Searches.{budget_most}
 use Rattle.players.specs.Players.{searcher}
 use Rattle.players.specs.Answers.{players_of}
@@ -44,24 +45,10 @@ pub record Gaming (g₀ : List ℕ) (c : Players) (seed : ℕ) (w₀ w g : List 
   pub past : Beyond w₀ w
   pub each : (p : Position) → Holds p g₀ 0 → Accepted p → Reached (searcher (length w₀) (players_of c)) p seed w₀ w g state expanded
 
-pub gaming_start : (g : List ℕ) (c : Players) (seed : ℕ) (w : List ℕ) → Ready g w c → Gaming g c seed w w g seed 0
-gaming_start g c seed w r = record {
-  from = r;
-  long = refl;
-  past = λ j l. refl;
-  each = λ p h a.
-      let t = play_game (searcher (length w) (players_of c)) p seed in
-      let none : t.expanded ≡ 0 + t.expanded = omega arith in
-      record { pos = p; holds = h; accepted = a; rest = λ i. record { last = t.last; state = t.state; expanded = none i }; still = λ z. (refl, refl) };
-}
-
 module _ {g₀ : List ℕ} {c : Players} {seed : ℕ} {w₀ w g : List ℕ} {state expanded : ℕ} (l : Gaming g₀ c seed w₀ w g state expanded) where
   -- the position reached from the one that the call was begun with
   abbrev here : Reached (searcher (length w₀) (players_of c)) l.from.pos seed w₀ w g state expanded
   here = l.each l.from.pos l.from.holds l.from.accepted
-
-  pub gaming_held : Held g 0
-  gaming_held = (here.pos, here.holds)
 
   module _ (b : Bool) (test : (p : Position) → Holds p g 0 → b ≡ (game_state p == 0)) where
     -- in play

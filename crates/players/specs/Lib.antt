@@ -3,6 +3,4 @@ pub mod Answers
 pub mod Turning
 pub mod Gaming
 pub mod Matching
-pub mod Calling
 pub mod PlayersStatement
-pub mod Promising

@@ -1,5 +1,7 @@
 // Simulated players: X and O, each with its own budget for every search, play games from a record's position, and a report counts them.
 
+#![tactic(auto)]
+
 ghost use Rattle.std.specs.Prelude.{◌≡◌, ◌<◌, ◌≤◌, length, ◌==◌};
 ghost use Rattle.rules.specs.Rules.{Position, game_state, play, move_error};
 ghost use Rattle.rules.specs.Record.{position_of, player_of};
@@ -39,7 +41,7 @@ const STATE_STEP: u64 = 0x9E3779B97F4A7C15;
 const MOVES: usize = 81;
 
 // What the searches of both players are given, beside the pool: all but the budgets is common.
-#[derive(Drop)]
+#[derive(Clone, Copy)]
 pub struct Players {
     pub limit: u64,
     pub x_budget: u64,
@@ -84,7 +86,7 @@ fn is_false(v: Evaluation) -> bool
 }
 
 // Whether a move wins; its place among the legal moves; and what was expanded to find out.
-#[derive(Drop)]
+#[derive(Clone, Copy)]
 pub struct Look {
     pub wins: bool,
     pub place: usize,
@@ -142,7 +144,7 @@ fn drawn_place(state: u64, n: usize) -> usize
 }
 
 // A turn: the move, the state afterwards, and what was expanded.
-#[derive(Drop)]
+#[derive(Clone, Copy)]
 pub struct Turn {
     pub m: Move,
     pub state: u64,
@@ -186,7 +188,7 @@ fn in_play(table: &[u8; 512], pos: Game) -> bool
 }
 
 // A game: its last position, the state afterwards, and what was expanded.
-#[derive(Drop)]
+#[derive(Clone, Copy)]
 pub struct Played {
     pub pos: Game,
     pub state: u64,
@@ -237,7 +239,7 @@ fn one(b: bool) -> u64
 }
 
 // The report: X's wins, O's wins, draws, and what was expanded in all.
-#[derive(Drop)]
+#[derive(Clone, Copy)]
 pub struct Report {
     pub x_wins: u64,
     pub o_wins: u64,
@@ -321,7 +323,7 @@ fn accept(bytes: &[u8], nodes: usize, c: Players, games: u64) -> Loaded
 }
 
 // The answer: the report, or the check that turned the call back.
-#[derive(Drop)]
+#[derive(Clone, Copy)]
 pub enum Simulated {
     Reported(Report),
     Refused(u8),

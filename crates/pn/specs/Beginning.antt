@@ -10,13 +10,14 @@ use Rattle.machine.specs.Tree.{leaf}
 use Rattle.machine.specs.Place.{pool_max}
 use Rattle.machine.specs.Machine.{Verdict, start}
 use Rattle.plain.specs.Plain.{game_of}
-use Rattle.plain.specs.Laws.{root_mine}
+use Rattle.plain.proofs.Laws.{root_mine}
 use Rattle.prove.specs.Numbers.{verdict_number, Pair}
 use Rattle.words.specs.Packed.{view, pack, packed, bit}
 use Rattle.words.specs.Words.{NONE, capacity, Filled, Beyond}
-use Rattle.words.specs.Free.{Number, all_spare}
-use Rattle.words.specs.Making.{holding_root}
-use Rattle.words.specs.States.{holds_start}
+use Rattle.words.specs.Free.{Number}
+use Rattle.words.proofs.Free.{all_spare}
+use Rattle.words.proofs.Making.{holding_root}
+use Rattle.words.proofs.States.{holds_start}
 use Rattle.prover.specs.Stands.{Stands}
 use Rattle.node_pool.specs.declared.NodeID.{NodeID}
 use Rattle.prover.specs.declared.Prover.{Prover}

@@ -5,8 +5,8 @@ use Rattle.std.proofs.Common.{◌∙◌, arith}
 use Rattle.machine.specs.Game.{Game}
 use Rattle.machine.specs.Tree.{solved}
 use Rattle.machine.specs.Machine.{State, Settings, Policy, root, to_leaf, short, round, over_limit, result, run, ends}
-use Rattle.machine.specs.Runs.{run_solved, run_short, run_over, run_next, result_solved}
-use Rattle.machine.specs.Resume.{MoreBudget, resume}
+use Rattle.machine.proofs.Runs.{run_solved, run_short, run_over, run_next, result_solved}
+use Rattle.machine.proofs.Resume.{MoreBudget, resume}
 
 module _ (G : Game) (P : Policy G) (S : Settings) (p : G.Pos) where
   -- from state s on, the run ends as the whole search does

@@ -8,9 +8,9 @@ use Rattle.machine.specs.Tree.{solved, proof_of, disproof_of}
 use Rattle.machine.specs.Machine as machine
 use Rattle.machine.specs.Place.{pool_max}
 use Rattle.machine.specs.Rounds.{StateOk}
-use Rattle.machine.specs.Resume.{MoreBudget, cause_one}
+use Rattle.machine.proofs.Resume.{MoreBudget, cause_one}
 use Rattle.plain.specs.Plain.{game_of, policy_of, search_of}
-use Rattle.plain.specs.Laws.{root_mine}
+use Rattle.plain.proofs.Laws.{root_mine}
 use Rattle.prove.specs.Numbers.{verdict}
 use Rattle.words.specs.Packed.{view}
 use Rattle.words.specs.Words.{PHI, DELTA, word, capacity}

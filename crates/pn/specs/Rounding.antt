@@ -7,19 +7,21 @@ use native.Mathlib.Omega.{arith}
 use Rattle.std.proofs.Math.Decide.{ℕ_discrete, dec_lt}
 use borrow.Author.Tests.{lt-ltb, le-ltb}
 use Rattle.rules.specs.Rules.{Position, game_state, count}
-use Rattle.rules.specs.Legal.{legal}
-use Rattle.rules.specs.LegalMoves.{in_legal, moves_few}
+use Rattle.rules.proofs.Legal.{legal}
+use Rattle.rules.proofs.LegalMoves.{in_legal, moves_few}
 use Rattle.machine.specs.Game.{Game}
 use Rattle.machine.specs.Tree.{Node, Children, solved}
 use Rattle.machine.specs.Machine as machine
-use Rattle.machine.specs.Value.{Lawful}
-use Rattle.machine.specs.Numbers.{OpenLeaf, leaf_of}
-use Rattle.machine.specs.Place.{Sane}
-use Rattle.machine.specs.Descent.{Found}
-use Rattle.machine.specs.Rounds.{StateOk, children_ok, found_leaf, leaf_state, round_ok}
-use Rattle.machine.specs.Climb.{climb_stay, climb_root, climb_next}
+use Rattle.machine.proofs.Value.{Lawful}
+use Rattle.machine.specs.Numbers.{OpenLeaf}
+use Rattle.machine.proofs.Numbers.{leaf_of}
+use Rattle.machine.proofs.Place.{Sane}
+use Rattle.machine.proofs.Descent.{Found}
+use Rattle.machine.specs.Rounds.{StateOk}
+use Rattle.machine.proofs.Rounds.{children_ok, found_leaf, leaf_state, round_ok}
+use Rattle.machine.proofs.Climb.{climb_stay, climb_root, climb_next}
 use Rattle.plain.specs.Plain.{game_of}
-use Rattle.plain.specs.Laws.{lawful, policy_sane}
+use Rattle.plain.proofs.Laws.{lawful, policy_sane}
 use Rattle.words.specs.Words.{capacity}
 use Rattle.prover.specs.declared.Prover.{Prover}
 use Rattle.prover.specs.Stands.{Stands, Searching}

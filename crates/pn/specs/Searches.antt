@@ -5,10 +5,11 @@ use Rattle.rules.specs.Rules.{Position}
 use Rattle.rules.specs.Record.{Accepted, side_bit}
 use Rattle.game.specs.Words.{Holds}
 use Rattle.machine.specs.Machine as machine
-use Rattle.machine.specs.Rounds.{start_ok}
+use Rattle.machine.proofs.Rounds.{start_ok}
 use Rattle.plain.specs.Plain.{game_of, search_of}
-use Rattle.plain.specs.Laws.{lawful, left_most}
-use Rattle.words.specs.Words.{capacity, Beyond, beyond_trans}
+use Rattle.plain.proofs.Laws.{lawful, left_most}
+use Rattle.words.specs.Words.{capacity, Beyond}
+use Rattle.words.proofs.Words.{beyond_trans}
 use Rattle.words.specs.Freeing.{plies}
 use Rattle.prover.specs.declared.Prover.{Prover}
 use Rattle.pn.specs.Ticks.{tick_start}

@@ -10,12 +10,12 @@ use Rattle.rules.specs.Record.{side_bit}
 use Rattle.machine.specs.Tree.{size, solved}
 use Rattle.machine.specs.Game.{Game, sequences}
 use Rattle.machine.specs.Machine as machine
-use Rattle.machine.specs.Descent.{depth_left}
-use Rattle.machine.specs.Rounds.{expand_ok, expand_counts}
+use Rattle.machine.proofs.Descent.{depth_left}
+use Rattle.machine.proofs.Rounds.{expand_ok, expand_counts}
 use Rattle.plain.specs.Plain.{game_of}
-use Rattle.plain.specs.Laws.{lawful, policy_sane, policy_needs}
+use Rattle.plain.proofs.Laws.{lawful, policy_sane, policy_needs}
 use Rattle.words.specs.Words.{capacity}
-use Rattle.words.specs.Steps.{line_root}
+use Rattle.words.proofs.Steps.{line_root}
 use Rattle.prover.specs.declared.Prover.{Prover}
 use Rattle.prover.specs.Stands.{Stands}
 use Rattle.stay.specs.Margin.{stay_of}

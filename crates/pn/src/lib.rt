@@ -1,5 +1,7 @@
 // The search, ported from Prover::prove of pn.rs and the counter of progress.rs: start, rounds of steps 1 to 6, and the result.
 
+#![tactic(auto)]
+
 ghost use Rattle.std.specs.Prelude.{◌≡◌, List, true, false, cond, ◌||◌, ℕ, ◌≤◌, ◌<◌, length, eqb};
 ghost use Rattle.rules.specs.Rules.{Position};
 ghost use Rattle.rules.specs.Record.{Accepted};
@@ -24,7 +26,7 @@ use prover::Prover;
 use stay::Stay;
 
 // What a search is given beside its position and its pool.
-#[derive(Drop)]
+#[derive(Clone, Copy)]
 pub struct Settings {
     pub rule: u64,
     pub limit: u64,
@@ -34,7 +36,7 @@ pub struct Settings {
 }
 
 // A search between two rounds: its state, what is left to the next interval-th expansion, and whether it has stopped, with the cause.
-#[derive(Drop)]
+#[derive(Clone, Copy)]
 pub struct Running {
     pub prover: Prover,
     pub tick: u64,
@@ -43,7 +45,7 @@ pub struct Running {
 }
 
 // The nine fields.
-#[derive(Drop)]
+#[derive(Clone, Copy)]
 pub struct SearchResult {
     pub verdict: Evaluation,
     pub proof: u32,

@@ -1,5 +1,7 @@
 // The positions of the line that a search follows, a ply a place of 24 words in one flat array: the root's at ply 0.
 
+#![tactic(auto)]
+
 ghost use Rattle.std.specs.Prelude.{◌≡◌, ◌+◌, ◌*◌, ◌<◌, length};
 ghost use Rattle.rules.specs.Rules.{Position};
 ghost use Rattle.game.specs.Lines.{line_table};

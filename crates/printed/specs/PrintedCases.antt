@@ -8,9 +8,9 @@ use Rattle.rules.specs.Record.{bit_at, position_of, position_refusal, refusal_to
 use Rattle.rules.specs.Refusals.{first_refusal}
 use Rattle.rules.specs.Examples.{FA}
 use Rattle.machine.specs.Machine.{True}
-use Rattle.plain.specs.Cases.{W, D, fields, computed_search, starred}
+use Rattle.plain.proofs.Cases.{W, D, fields, computed_search, starred}
 use Rattle.searches.specs.Searches.{nodes, Searched, Answered, Refused, search_refusal, search_call}
-use Rattle.searches.specs.SearchAnswers.{search_answered}
+use Rattle.searches.proofs.SearchAnswers.{search_answered}
 use Rattle.printed.specs.Printed.{byte, decimal, fields_line, refused_line, answer_line, judge_words, judge_limits, judge_line}
 use Rattle.printed.specs.Answers.{wrong_length, right_length}
 

@@ -1,5 +1,7 @@
 // The printed line: what the program judge writes, from what it reads. Rests on the call search.
 
+#![tactic(auto)]
+
 ghost use Rattle.std.specs.Prelude.{◌≡◌, ◌+◌, ◌-◌, ◌*◌, ◌≤◌, ◌<◌, length, take, drop, replicate};
 ghost use Rattle.prove.specs.Numbers.{verdict};
 ghost use Rattle.pn.specs.Results.{result_of};
@@ -28,7 +30,7 @@ const RECORD_LENGTH: usize = 21;
 const INPUT_LENGTH: usize = 22;
 
 // A line at the front of an array, and its length. The longest has seven letters, eight times a space with twenty digits, and a newline.
-#[derive(Drop)]
+#[derive(Clone, Copy)]
 pub struct Line {
     pub bytes: [u8; 176],
     pub length: usize,

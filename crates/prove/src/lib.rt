@@ -1,5 +1,7 @@
 // Proof and disproof numbers, ported from prove.rs: INFINITY, Evaluation, Bounds, and the held sum that stands for saturating_add.
 
+#![tactic(auto)]
+
 ghost use Rattle.std.specs.Prelude.{◌≡◌, ◌||◌, ◌+◌, min, eqb};
 ghost use Rattle.machine.specs.Tree.{u32_max, INFINITY};
 ghost use Rattle.prove.specs.Numbers.{number, Pair};
@@ -11,7 +13,7 @@ pub const INFINITY: u32 = 2147483648;
 pub const MOST: u32 = 4294967295;
 
 // What is known of a position's value for the root's side.
-#[derive(Drop)]
+#[derive(Clone, Copy)]
 pub enum Evaluation {
     True,
     False,
@@ -31,7 +33,7 @@ impl Evaluation {
 }
 
 // The proof and disproof numbers of a node, as its mover has them.
-#[derive(Drop)]
+#[derive(Clone, Copy)]
 pub struct Bounds {
     pub phi: u32,
     pub delta: u32,

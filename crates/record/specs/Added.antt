@@ -6,15 +6,15 @@ use Rattle.std.proofs.Math.Bool.{◌&&◌, ◌||◌}
 use Rattle.rules.specs.Rules.{answers, all, any, state, board}
 use Rattle.rules.specs.Rules.Player.{X, O}
 use Rattle.rules.specs.Record.{both_lines}
-use Rattle.rules.specs.Answers.{answers_next}
-use Rattle.rules.specs.Boards.{length_board}
-use Rattle.rules.specs.Tests.{both_true}
+use Rattle.rules.proofs.Answers.{answers_next}
+use Rattle.rules.proofs.Boards.{length_board}
+use Rattle.rules.proofs.Tests.{both_true}
 use Rattle.game.specs.Words.{all_board}
 use Rattle.game.specs.Lines.{line_in}
 use Rattle.cells.specs.declared.Codes.{Codes}
 use Rattle.cells.specs.Reading.{Masks, Putting}
-use Rattle.cells.specs.Marks.{no_codes, putting, put_next}
-use Rattle.cells.specs.MoreBoards.{no_threes, cells_coded}
+use Rattle.cells.proofs.Marks.{no_codes, putting, put_next}
+use Rattle.cells.proofs.MoreBoards.{no_threes, cells_coded}
 use Rattle.record.specs.declared.Shown.{Shown}
 use Rattle.record.specs.Reading.{Whole, Coded, Shows, Adding}
 use Rattle.record.specs.Marks.{any_more, x_line, o_line}

@@ -8,7 +8,7 @@ use Rattle.rules.specs.Rules.{Player, mark, code, count, has_line, board_states}
 use Rattle.rules.specs.Rules.Player.{X, O}
 use Rattle.rules.specs.Record.{side_bit, fair_turn, both_lines, position_refusal}
 use Rattle.rules.specs.Refusals.{refuses, first_refusal}
-use Rattle.rules.specs.Boards.{length_states}
+use Rattle.rules.proofs.Boards.{length_states}
 use Rattle.game.specs.Masks.{has_bit, has_bit_of, nonzero}
 use Rattle.game.specs.Lines.{line_in}
 use Rattle.record.specs.declared.Boards.{Boards}

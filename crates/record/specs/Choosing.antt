@@ -7,7 +7,7 @@ use Rattle.std.proofs.Math.Dec.{eqb-zero-suc, eqb-suc-zero}
 use Rattle.std.proofs.Math.ListN.{get_or}
 use Rattle.rules.specs.Rules.{Player, Position, all, count, board_states}
 use Rattle.rules.specs.Record.{side_bit, impossible_choice}
-use Rattle.rules.specs.Tests.{both_true}
+use Rattle.rules.proofs.Tests.{both_true}
 use Rattle.game.specs.Masks.{bit, mask_of, nonzero}
 use Rattle.game.specs.Words.{Holds}
 use Rattle.record.specs.Reading.{Counting}

@@ -10,7 +10,7 @@ use Rattle.std.proofs.Math.Seq.{take-add}
 use Rattle.rules.specs.Rules.{Player, mark, count, board}
 use Rattle.rules.specs.Rules.Player.{X, O}
 use Rattle.rules.specs.Record.{side_bit}
-use Rattle.rules.specs.Boards.{length_board}
+use Rattle.rules.proofs.Boards.{length_board}
 use Rattle.game.specs.Masks.{mask, ones_mask}
 use Rattle.game.specs.Words.{nine_bits}
 use Rattle.record.specs.Reading.{Counting}

@@ -12,15 +12,15 @@ use Rattle.rules.specs.Rules.{Player, mark, count, board, board_states}
 use Rattle.rules.specs.Rules.Player.{X, O}
 use Rattle.rules.specs.Record.{bit_at, number, side_bit, player_of, position_of, position_refusal, refusal_to6}
 use Rattle.rules.specs.Refusals.{first_refusal}
-use Rattle.rules.specs.RefusalLaws.{last_refuses}
-use Rattle.rules.specs.Checks.{passes}
-use Rattle.rules.specs.Roundtrip.{load_bits, load_whole, bit_back}
+use Rattle.rules.proofs.RefusalLaws.{last_refuses}
+use Rattle.rules.proofs.Checks.{passes}
+use Rattle.rules.proofs.Roundtrip.{load_bits, load_whole, bit_back}
 use Rattle.game.specs.Masks.{mask}
 use Rattle.game.specs.Words.{Holds}
 use Rattle.cells.specs.declared.Codes.{Codes}
 use Rattle.cells.specs.declared.Cells.{Cells}
 use Rattle.cells.specs.Reading.{Masks, CellsRead}
-use Rattle.cells.specs.MoreBoards.{cells_coded}
+use Rattle.cells.proofs.MoreBoards.{cells_coded}
 use Rattle.record.specs.declared.Boards.{Boards}
 use Rattle.record.specs.Reading.{Coded, Shows, Checking, FieldsRead}
 

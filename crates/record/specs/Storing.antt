@@ -5,10 +5,10 @@ use Rattle.std.proofs.lemmas.List.{set_at}
 use Rattle.rules.specs.Rules.{Player, Position, mark, code, answers, board}
 use Rattle.rules.specs.Rules.Player.{X, O}
 use Rattle.rules.specs.Record.{number, side_bit, player_of, record_bit}
-use Rattle.rules.specs.Answers.{length_answers, answers_next}
-use Rattle.rules.specs.Boards.{code_board, length_board}
-use Rattle.rules.specs.Tests.{all_at}
-use Rattle.rules.specs.Roundtrip.{bit_back}
+use Rattle.rules.proofs.Answers.{length_answers, answers_next}
+use Rattle.rules.proofs.Boards.{code_board, length_board}
+use Rattle.rules.proofs.Tests.{all_at}
+use Rattle.rules.proofs.Roundtrip.{bit_back}
 use Rattle.game.specs.Masks.{bit, has_bit, has_bit_of}
 use Rattle.game.specs.Words.{Holds}
 

@@ -1,5 +1,7 @@
 // The record of a position: 21 bytes, read with checks 1 to 6 and 22, and written.
 
+#![tactic(auto)]
+
 ghost use Rattle.std.specs.Prelude.{◌≡◌, ◌&&◌, [], ◌∷◌, ◌++◌, ℕ, ◌+◌, ◌*◌, ◌/◌, ◌%◌, ◌^◌, ◌<◌, ◌≤◌, length, get_or, drop};
 ghost use Rattle.rules.specs.Rules.{Position, mark, count, state};
 ghost use Rattle.rules.specs.Record.{number, position_of, position_refusal, refusal_to6, impossible_choice, refusal, record_bit, record_of};
@@ -62,7 +64,7 @@ fn both_lines(table: &[u8; 512], codes: Codes) -> bool
 }
 
 // What the boards so far show: their states, and whether one has lines of both sides.
-#[derive(Drop)]
+#[derive(Clone, Copy)]
 struct Shown {
     states: Codes,
     both: bool,
@@ -155,7 +157,7 @@ fn of_side(codes: Codes, side: u8) -> u16
 }
 
 // What checks 3 to 6 look at: the boards' states, how many cells each side has, and whether a board has lines of both sides.
-#[derive(Drop)]
+#[derive(Clone, Copy)]
 struct Boards {
     states: Codes,
     xs: u32,
@@ -186,7 +188,7 @@ fn check(boards: Boards, target: u8, side: u8, table: &[u8; 512]) -> u8
 }
 
 // A record that was read: 0 and its position, or the number of the check that refuses it.
-#[derive(Drop)]
+#[derive(Clone, Copy)]
 pub struct Loaded {
     pub code: u8,
     pub game: Game,

@@ -2,9 +2,9 @@
 use Rattle.std.specs.Prelude.{◌≡◌, refl, Bool, cond, List, ◌⊎◌, ℕ}
 use Rattle.std.proofs.Common.{◌∙◌, inl, inr}
 use Rattle.machine.specs.Machine.{Settings, Verdict, True, False, Unknown}
-use Rattle.machine.specs.Reached.{PoolInRange}
+use Rattle.machine.proofs.Reached.{PoolInRange}
 use Rattle.plain.specs.Plain.{record_value, plain_search}
-use Rattle.plain.specs.TwoSearches.{two_searches}
+use Rattle.plain.proofs.TwoSearches.{two_searches}
 
 -- v is what the referee says of a record under a rule: the plain machine's verdict is Unknown, or says v
 pub agrees : (rule : ℕ) (bytes : List ℕ) (S : Settings) → PoolInRange S → (v : Bool) → v ≡ record_value rule bytes

@@ -9,14 +9,14 @@ use mathlib.Core.List.{List, Memᴰ}
 use Rattle.std.proofs.Math.Logic.{inl, inr, ⊎_elim}
 use Rattle.rules.specs.Rules.{Position, same, game_state, legal_moves, move_error, play}
 use Rattle.rules.specs.Record.{Accepted, player_of}
-use Rattle.rules.specs.Roundtrip.{side_back}
-use Rattle.rules.specs.Plays.{one_less, keeps_accepted}
-use Rattle.rules.specs.LegalMoves.{in_legal, legal_in, unfinished_some}
+use Rattle.rules.proofs.Roundtrip.{side_back}
+use Rattle.rules.proofs.Plays.{one_less, keeps_accepted}
+use Rattle.rules.proofs.LegalMoves.{in_legal, legal_in, unfinished_some}
 use Rattle.machine.specs.Game.{value}
 use Rattle.machine.specs.Machine.{Verdict, True, False, Unknown}
-use Rattle.machine.specs.Value.{value_final, value_some, value_all}
+use Rattle.machine.proofs.Value.{value_final, value_some, value_all}
 use Rattle.plain.specs.Plain.{game, value_of}
-use Rattle.plain.specs.Laws.{lawful, root_mine}
+use Rattle.plain.proofs.Laws.{lawful, root_mine}
 use Rattle.game.specs.Words.{Holds}
 use Rattle.game.specs.Cursor.{moves_from, moves_within}
 use Rattle.evaluate.specs.Final.{position_verdict}

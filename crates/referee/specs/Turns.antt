@@ -5,7 +5,7 @@ use Rattle.std.proofs.Common.{sym, ap, subst, ◌∙◌, true≢false, arith}
 use Rattle.std.proofs.lemmas.Bool.{false≢true}
 use Rattle.rules.specs.Rules.{Position, same, code, answers, count, move_error, play}
 use Rattle.rules.specs.Record.{Accepted, player_of}
-use Rattle.rules.specs.Answers.{answers_are}
+use Rattle.rules.proofs.Answers.{answers_are}
 use Rattle.game.specs.Masks.{has_bit}
 use Rattle.game.specs.Words.{Holds, cell_is}
 use Rattle.game.specs.Moves.{Tried}

@@ -1,6 +1,8 @@
 // The referee: the value of a small ending by going through everything that can follow. The root's side attacks and needs one move to True; the other
 // side defends and needs one to False. The two turns call each other, and the empty cells fall at each call.
 
+#![tactic(auto)]
+
 ghost use Rattle.std.specs.Prelude.{◌≡◌, true, false, ◌<◌};
 ghost use Rattle.rules.specs.Rules.{Position, legal_moves};
 ghost use Rattle.rules.specs.Record.{Accepted, player_of};
@@ -39,7 +41,7 @@ fn moves(table: &[u8; 512], pos: Game) -> MoveIterator
 }
 
 // A reply to a position: the position after the next move and the cursor past that move; not found if no move is left.
-#[derive(Drop)]
+#[derive(Clone, Copy)]
 pub struct Reply {
     pub found: bool,
     pub pos: Game,

@@ -2,9 +2,9 @@
 use Rattle.std.specs.Prelude.{◌≡◌, ℕ, ◌≤◌}
 use Rattle.rules.specs.Rules.{Position}
 use Rattle.machine.specs.Machine.{Stay, Settings}
-use Rattle.machine.specs.Reached.{PoolInRange, ends_spent}
+use Rattle.machine.proofs.Reached.{PoolInRange, ends_spent}
 use Rattle.plain.specs.Plain.{game_of, policy_of, search_of}
-use Rattle.plain.specs.Laws.{lawful, policy_sane}
+use Rattle.plain.proofs.Laws.{lawful, policy_sane}
 use Rattle.passes.specs.Passes.{OneGame}
 use Rattle.passes.specs.Laws.{Bounded}
 

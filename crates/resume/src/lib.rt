@@ -1,5 +1,7 @@
 // A game's search in the two passes: it runs up to its share, is kept as it stands, and goes on from there with more budget.
 
+#![tactic(auto)]
+
 ghost use Rattle.rules.specs.Rules.{Position};
 ghost use Rattle.rules.specs.Record.{Accepted};
 ghost use Rattle.game.specs.Words.{Holds};
@@ -14,7 +16,7 @@ use positions::POSITIONS;
 use prover::Prover;
 
 // A search that has stopped, and what it goes on with, beside its pool: the line that it follows, with the positions on it, and the root's side to move.
-#[derive(Drop)]
+#[derive(Clone, Copy)]
 pub struct Kept {
     pub running: Running,
     pub path: [u32; PLIES],
@@ -97,7 +99,7 @@ fn go_on(words: &mut [u32], k: Kept, s: Settings) -> Kept
 }
 
 // A game's result, and what is unspent after its turn.
-#[derive(Drop)]
+#[derive(Clone, Copy)]
 pub struct Turn {
     pub result: SearchResult,
     pub unspent: u64,

@@ -7,18 +7,18 @@ use mathlib.Core.List.{List, [], ◌∷◌, Memᴰ}
 use Rattle.rules.specs.Rules.{Player, Position, same, mark, board, game_state, board_of, cell_of, move_of, move_error, play}
 use Rattle.rules.specs.Rules.Player.{X, O}
 use Rattle.rules.specs.Record.{side_bit, player_of}
-use Rattle.rules.specs.Roundtrip.{side_back}
-use Rattle.rules.specs.Legal.{legal}
-use Rattle.rules.specs.LegalMoves.{in_legal}
+use Rattle.rules.proofs.Roundtrip.{side_back}
+use Rattle.rules.proofs.Legal.{legal}
+use Rattle.rules.proofs.LegalMoves.{in_legal}
 use Rattle.game.specs.Masks.{mask, mask_of, nonzero}
 use Rattle.game.specs.Words.{Holds}
 use Rattle.game.specs.Cursor.{moves_from, moves_all, moves_within}
 use Rattle.machine.specs.Game.{Game}
 use Rattle.machine.specs.Tree.{Children, leaf, none, child, size}
 use Rattle.machine.specs.Machine.{Verdict, make, children}
-use Rattle.machine.specs.Rounds.{make_last, make_next}
+use Rattle.machine.proofs.Rounds.{make_last, make_next}
 use Rattle.plain.specs.Plain.{game}
-use Rattle.plain.specs.Laws.{lawful}
+use Rattle.plain.proofs.Laws.{lawful}
 use Rattle.words.specs.Packed.{view}
 use Rattle.children.specs.declared.Outer.{Outer}
 use Rattle.children.specs.Scalars.{OuterOf, ChildOf}

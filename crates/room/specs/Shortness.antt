@@ -3,12 +3,12 @@ use Rattle.std.specs.Prelude.{◌≡◌, refl, Bool, false, List, ℕ, ◌*◌, 
 use Rattle.std.proofs.Common.{sym, ◌∙◌, arith, le-ltb}
 use Rattle.rules.specs.Rules.{Player, Position, game_state, legal_moves}
 use Rattle.rules.specs.Record.{side_bit}
-use Rattle.rules.specs.LegalMoves.{moves_few}
+use Rattle.rules.proofs.LegalMoves.{moves_few}
 use Rattle.machine.specs.Tree.{size}
 use Rattle.machine.specs.Machine.{State, live, children}
-use Rattle.machine.specs.Rounds.{children_ok}
+use Rattle.machine.proofs.Rounds.{children_ok}
 use Rattle.plain.specs.Plain.{game}
-use Rattle.plain.specs.Laws.{lawful}
+use Rattle.plain.proofs.Laws.{lawful}
 use Rattle.words.specs.Words.{capacity}
 use Rattle.prover.specs.declared.Prover.{Prover}
 use Rattle.prover.specs.Stands.{Stands, here}

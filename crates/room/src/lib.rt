@@ -1,5 +1,7 @@
 // Step 3 of the plain machine: whether fewer nodes are free than an expansion of the leaf takes.
 
+#![tactic(auto)]
+
 ghost use Rattle.std.specs.Prelude.{◌≡◌, List, ℕ};
 ghost use Rattle.rules.specs.Rules.{move_error};
 ghost use Rattle.game.specs.Lines.{line_table};

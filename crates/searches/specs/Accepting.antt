@@ -3,18 +3,18 @@
 use Rattle.std.specs.Prelude.{◌≡◌, not, List, [], ◌∷◌, ℕ, ◌≤◌, ltb, length}
 use Rattle.std.proofs.Common.{sym, ◌∙◌, arith, le-ltb}
 use Rattle.rules.specs.Record.{position_of, refusal, Accepted}
-use Rattle.rules.specs.Checks.{loads, loads_accepted}
+use Rattle.rules.proofs.Checks.{loads, loads_accepted}
 use Rattle.rules.specs.Refusals.{refuses, first_refusal}
-use Rattle.rules.specs.RefusalLaws.{none_refuses, passes_need}
+use Rattle.rules.proofs.RefusalLaws.{none_refuses, passes_need}
 use Rattle.game.specs.Words.{Holds}
-use Rattle.machine.specs.Reached.{PoolInRange}
+use Rattle.machine.proofs.Reached.{PoolInRange}
 use Rattle.plain.specs.Plain.{plain_search}
 use Rattle.pn.specs.Searches.{Searchable}
 use Rattle.pn.specs.Results.{result_of}
 use Rattle.pn.specs.declared.SearchResult.{SearchResult}
 use Rattle.stay.specs.Margin.{stay_in_range, StayInRange}
 use Rattle.calls.specs.Calls.{last_rule}
-use Rattle.calls.specs.Refusing.{passes_test}
+use Rattle.calls.proofs.Refusing.{passes_test}
 use Rattle.searches.specs.Searches.{Limits, pool_least, pool_most, interval_least, interval_most, budget_most, nodes, settings, search_refusal, Untouched}
 
 pub record Accepts (bytes : List ℕ) (words rule : ℕ) (L : Limits) : Type 0 where
@@ -46,67 +46,12 @@ accepts bytes words rule L e =
       stay_is_in_range = passes_need 20 _ (none_refuses _ _ budget_at_most.1).0;
     }
 
--- the checks, each with the number that the code has for it
-pub accept_code : (bytes : List ℕ) (capacity rule : ℕ) (L : Limits) {record_code pool_none pool_over rule_over interval_under interval_over budget_over margin_none n : ℕ}
-    → record_code ≡ refusal bytes
-    → pool_none ≡ refuses 8 (ltb capacity pool_least)
-    → pool_over ≡ refuses 9 (ltb pool_most capacity)
-    → rule_over ≡ refuses 10 (ltb last_rule rule)
-    → interval_under ≡ refuses 10 (ltb L.interval interval_least)
-    → interval_over ≡ refuses 10 (ltb interval_most L.interval)
-    → budget_over ≡ refuses 10 (ltb budget_most L.budget)
-    → margin_none ≡ refuses 21 (not (stay_in_range L.stay))
-    → n ≡ first_refusal (record_code ∷ pool_none ∷ pool_over ∷ rule_over ∷ interval_under ∷ interval_over ∷ budget_over ∷ margin_none ∷ [])
-    → n ≡ search_refusal bytes capacity rule L
-unfolding search_refusal
-accept_code bytes capacity rule L a b c d e f g h i = rw (i, a, b, c, d, e, f, g, h)
-
--- the checks of a pool whose capacity has been counted
-pub of_pool : (bytes : List ℕ) (capacity words rule : ℕ) (L : Limits) (n : ℕ) → n ≡ search_refusal bytes capacity rule L → capacity ≡ nodes words
-    → n ≡ search_refusal bytes (nodes words) rule L
-of_pool bytes capacity words rule L n e q = rw (e, q)
-
 -- every check is passed, and the words g hold the record's position
 pub record Passed (bytes g : List ℕ) (words rule : ℕ) (L : Limits) : Type 0 where
   pub holds : Holds (position_of bytes) g 0
   pub none : search_refusal bytes (nodes words) rule L ≡ 0
 
-module _ {bytes g : List ℕ} {rule : ℕ} (words : ℕ) (L : Limits) where
-  pub passed_all : {capacity n : ℕ} → n ≡ search_refusal bytes capacity rule L → capacity ≡ nodes words → n ≡ 0 → Holds (position_of bytes) g 0 → Passed bytes g words rule L
-  passed_all e q z h = record { holds = h; none = sym (of_pool bytes _ words rule L _ e q) ∙ z }
-
-  pub passed_accepted : Passed bytes g words rule L → Accepted (position_of bytes)
-  passed_accepted h = loads_accepted bytes (loads bytes (accepts bytes words rule L h.none).loads)
-
--- the checks are the same under each of the rules
-pub passed_rule : {bytes g : List ℕ} {words words' : ℕ} {L : Limits} (rule : ℕ) → rule ≤ last_rule → words' ≡ words → Passed bytes g words 0 L → Passed bytes g words' rule L
-unfolding search_refusal
-passed_rule rule l e h = record { holds = h.holds; none = rw (le-ltb last_rule rule l, e) h.none }
-
 -- a search of the position that passed: the plain machine's result, and the words past the capacity as they were
 abbrev pub SearchesPassed : (g : List ℕ) (rule : ℕ) (L : Limits) (w v : List ℕ) (r : SearchResult) → Type 0
 SearchesPassed g rule L w v r =
     ((bytes : List ℕ) → Passed bytes g (length w) rule L → result_of r ≡ plain_search rule (settings (length w) L) bytes) × Untouched w v
-
--- what the search asks for, once every check is passed
-pub to_search : (bytes g w : List ℕ) (rule : ℕ) (L : Limits) → Passed bytes g (length w) rule L
-    → Searchable g w (record { rule = rule; limit = L.limit; budget = L.budget; interval = L.interval; stay = L.stay })
-to_search bytes g w rule L h =
-    let a = accepts bytes (length w) rule L h.none in
-    record {
-      startable = record {
-        pos = position_of bytes;
-        holds = h.holds;
-        accepted = passed_accepted (length w) L h;
-        some = omega (arith, a.range.some);
-        few = omega (arith, a.range.most);
-      };
-      ranges = record {
-        some = omega (arith, a.range.some);
-        few = omega (arith, a.range.most);
-        interval_some = omega (arith, a.interval_at_least);
-        countable = omega (arith, a.budget_at_most);
-        rule_few = omega (arith, a.rule_most);
-        stay_is_in_range = a.stay_is_in_range;
-      };
-    }

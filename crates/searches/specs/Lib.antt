@@ -2,13 +2,7 @@ pub mod Searches
 pub mod Answers
 pub mod Accepting
 pub mod SearchAnswers
-pub mod Pools
 pub mod ThirdCondition
 pub mod TwoSearches
 pub mod StayStatement
-pub mod Staying
-pub mod UnknownAnswers
-pub mod RefereeAgrees
 pub mod StepThree
-pub mod NodesNeeded
-pub mod StayCases

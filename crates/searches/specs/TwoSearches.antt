@@ -3,7 +3,7 @@ use Rattle.std.specs.Prelude.{◌≡◌, refl, List, ◌↔◌, ℕ, ◌≤◌, 
 use Rattle.std.proofs.Common.{arith}
 use Rattle.machine.specs.Machine.{Result}
 use Rattle.plain.specs.Plain.{record_sequences}
-use Rattle.plain.specs.TwoSearches as plain-searches
+use Rattle.plain.proofs.TwoSearches as plain-searches
 use Rattle.searches.specs.Searches.{budget_most, Limits, Answered, settings, search_call}
 use Rattle.searches.specs.Accepting.{accepts}
 use Rattle.searches.specs.SearchAnswers.{answered}

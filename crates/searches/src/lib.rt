@@ -1,5 +1,7 @@
 // The calls search and full verdict, the checks that every search takes, and two searches of one record.
 
+#![tactic(auto)]
+
 ghost use Rattle.std.specs.Prelude.{◌≡◌, List, ℕ, length};
 ghost use Rattle.rules.specs.Record.{position_of};
 ghost use Rattle.game.specs.Words.{Holds};
@@ -30,7 +32,7 @@ pub const MOST_INTERVAL: u64 = 1000000;
 pub const MOST_BUDGET: u64 = 3000000;
 
 // What a search is given beside the record, the pool and the rule.
-#[derive(Drop)]
+#[derive(Clone, Copy)]
 pub struct SearchLimits {
     pub limit: u64,
     pub budget: u64,
@@ -39,7 +41,7 @@ pub struct SearchLimits {
 }
 
 // The answer of search: the result, or the check that turned the call back.
-#[derive(Drop)]
+#[derive(Clone, Copy)]
 pub enum Outcome {
     Answered(SearchResult),
     Refused(u8),
@@ -99,7 +101,7 @@ pub fn search(bytes: &[u8], words: &mut [u32], rule: u64, l: SearchLimits) -> Ou
 }
 
 // The answers of two searches.
-#[derive(Drop)]
+#[derive(Clone, Copy)]
 pub struct TwoOutcomes {
     pub first: Outcome,
     pub second: Outcome,
@@ -124,7 +126,7 @@ pub fn two_searches(
 }
 
 // The six full verdicts.
-#[derive(Drop)]
+#[derive(Clone, Copy)]
 pub enum FullVerdict {
     Win,
     Loss,
@@ -135,7 +137,7 @@ pub enum FullVerdict {
 }
 
 // The answer of full verdict, with the results under rules 1 and 2, or the check that turned the call back.
-#[derive(Drop)]
+#[derive(Clone, Copy)]
 pub enum FullOutcome {
     Full(FullVerdict, SearchResult, SearchResult),
     TurnedBack(u8),

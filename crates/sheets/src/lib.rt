@@ -1,5 +1,7 @@
 // Two sheets of one game: the agreed opening, the longest common beginning of two lists of moves in which every move is legal from the empty game.
 
+#![tactic(auto)]
+
 ghost use Rattle.std.specs.Prelude.{◌≡◌, ◌≤◌, length, take};
 ghost use Rattle.game.specs.Words.{Holds};
 ghost use Rattle.sheets.specs.Sheets.{empty_game, common, sheets_outcome, sheets_call};
@@ -33,7 +35,7 @@ fn empty_game() -> Game
 }
 
 // The number of the answer, 0 or 7, and how many moves were made.
-#[derive(Drop)]
+#[derive(Clone, Copy)]
 struct Part {
     number: u32,
     count: usize,

@@ -1,4 +1,1 @@
 pub mod Margin
-pub mod Cases
-pub mod Steps
-pub mod Exact

@@ -1,11 +1,13 @@
 // Staying on a line: the setting, its range, and the test of the child that was taken last.
 
+#![tactic(auto)]
+
 ghost use Rattle.std.specs.Prelude.{◌≡◌, true, false, ◌+◌, ◌*◌, ◌<◌, leb};
 ghost use Rattle.std.specs.Float.Ieee.Exact.{HasValue};
 ghost use Rattle.stay.specs.Margin.{steps_in, is_margin, stay_in_range, given};
 
 // Off, or with a margin, as it was given.
-#[derive(Drop)]
+#[derive(Clone, Copy)]
 pub enum Stay {
     Off,
     Margin(f64),

@@ -5,15 +5,15 @@ use Rattle.rules.specs.Rules.{has_line, state, board, board_states, game_state}
 use Rattle.rules.specs.Record.{bit_at, position_of, position_refusal, refusal_to6, impossible_choice, refusal}
 use Rattle.rules.specs.Refusals.{first_refusal}
 use Rattle.machine.specs.Machine.{Result, True, fields}
-use Rattle.plain.specs.Cases.{record21, W, D, computed_search}
+use Rattle.plain.proofs.Cases.{record21, W, D, computed_search}
 use Rattle.passes.specs.Passes.{total, unspent_at}
 use Rattle.searches.specs.Searches.{search_refusal, Refused, Answered, search_call, full_of, Draw, Full, Turned, full_call}
-use Rattle.searches.specs.StayCases.{by_bits, staying}
+use Rattle.searches.proofs.StayCases.{by_bits, staying}
 use Rattle.searches.specs.StepThree.{pool, judging}
 use Rattle.entries.specs.Entries.{holds_rule, holds_pair, find}
 use Rattle.entries.specs.declared.Caller.TheVariants.{Arbiter, Trainer}
 use Rattle.book.specs.Book.{book_of, refused, searching, add_refusal, add_call}
-use Rattle.book.specs.Cases.{blank, none, one, both}
+use Rattle.book.proofs.Cases.{blank, none, one, both}
 use Rattle.games_checks.specs.Checks.{common, number_refusal, earlier, earliest, lowest, settings_refusal}
 use Rattle.games.specs.Games.{games_call}
 use Rattle.ultimattt.specs.GamesCases.{Judges, Refuses, unlimited, A, A_7, won, lost}

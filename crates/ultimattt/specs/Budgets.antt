@@ -4,27 +4,27 @@ use Rattle.std.proofs.Common.{ap, sym, ◌∙◌, subst, arith}
 use borrow.Author.Tests.{lt-ltb, le-ltb}
 use Rattle.std.proofs.lemmas.List.{length-replicate}
 use Rattle.rules.specs.Rules.{Player, any}
-use Rattle.rules.specs.Tests.{at_any, at_none}
-use Rattle.rules.specs.Answers.{length_answers, answers_zero}
+use Rattle.rules.proofs.Tests.{at_any, at_none}
+use Rattle.rules.proofs.Answers.{length_answers, answers_zero}
 use Rattle.rules.specs.Record.{refusal}
 use Rattle.rules.specs.Refusals.{refuses, first_refusal}
-use Rattle.rules.specs.RefusalLaws.{first_refuses, same_first, same_number, nested, last_refuses, passes_last, end_refuses}
+use Rattle.rules.proofs.RefusalLaws.{first_refuses, same_first, same_number, nested, last_refuses, passes_last, end_refuses}
 use Rattle.passes.specs.Passes.{total}
 use Rattle.matches.specs.Matches.{report}
 use Rattle.stay.specs.Margin.{stay_in_range}
 use Rattle.calls.specs.Calls.{last_rule}
-use Rattle.calls.specs.Refusing.{refused_by}
+use Rattle.calls.proofs.Refusing.{refused_by}
 use Rattle.searches.specs.Searches.{pool_least, pool_most, interval_least, interval_most, budget_most, Limits, nodes, search_refusal, Refused, search_call, Turned, full_call}
-use Rattle.searches.specs.SearchAnswers.{search_refused, full_refused}
+use Rattle.searches.proofs.SearchAnswers.{search_refused, full_refused}
 use Rattle.searches.specs.TwoSearches.{third_condition, budgets_of_N}
 use Rattle.entries.specs.declared.Caller.TheVariants.{Arbiter}
 use Rattle.book.specs.Book.{Book, refused, add_refusal, add_call}
 use Rattle.games_checks.specs.Checks.{games, Common, shares_of, settings_refusal}
 use Rattle.games.specs.Games.{games_call, PoolAfterGames}
 use Rattle.games.specs.GamesStatement.{GamesStatement, grant_of_game}
-use Rattle.games.specs.Promising.{games_statement}
+use Rattle.games.proofs.Promising.{games_statement}
 use Rattle.players.specs.Players.{Players, budget_of, with_budget, larger, simulate_refusal, simulate_outcome, simulate_call}
-use Rattle.players.specs.Calling.{budget_at_most, call_refused}
+use Rattle.players.proofs.Calling.{budget_at_most, call_refused}
 use Rattle.ultimattt.specs.BudgetStatement.{without_budget, without_allowance, up_to_ten, games_up_to_ten, BudgetStatement}
 
 -- two checks, three that refuse by 10 if at all, and the first of some more refuses by 10

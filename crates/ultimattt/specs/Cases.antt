@@ -9,25 +9,25 @@ use Rattle.rules.specs.Examples.{FA}
 use Rattle.machine.specs.Game.{backward, value_from, value}
 use Rattle.machine.specs.Machine.{Result, True, False, Unknown}
 use Rattle.plain.specs.Plain.{value_of}
-use Rattle.plain.specs.Cases as plain-cases
-use Rattle.plain.specs.Cases.{record21, E, W, D, fields, starred}
-use Rattle.plain.specs.Oracle.{last_x}
+use Rattle.plain.proofs.Cases as plain-cases
+use Rattle.plain.proofs.Cases.{record21, E, W, D, fields, starred}
+use Rattle.plain.proofs.Oracle.{last_x}
 use Rattle.referee.specs.OpenCells.{open_cells}
 use Rattle.calls.specs.Calls.{replay_outcome, referee_outcome, after_moves, output_refusal, replay_call, moves_call, referee_refusal, referee_call}
-use Rattle.meaning.specs.Cases.{MeaningCases, meaning_cases}
-use Rattle.meaning.specs.RecordCases.{RecordCases, record_cases}
-use Rattle.passes.specs.Cases.{PassesCases, passes_cases}
-use Rattle.book.specs.Cases.{BookCases, book_cases}
-use Rattle.book.specs.TrainerCases.{TrainerCases, trainer_cases}
-use Rattle.cells.specs.Cases.{WordsCases, words_cases}
-use Rattle.sheets.specs.Cases.{SheetsCases, sheets_cases}
-use Rattle.searches.specs.SearchAnswers.{search_answered, full_with}
+use Rattle.meaning.proofs.Cases.{MeaningCases, meaning_cases}
+use Rattle.meaning.proofs.RecordCases.{RecordCases, record_cases}
+use Rattle.passes.proofs.Cases.{PassesCases, passes_cases}
+use Rattle.book.proofs.Cases.{BookCases, book_cases}
+use Rattle.book.proofs.TrainerCases.{TrainerCases, trainer_cases}
+use Rattle.cells.proofs.Cases.{WordsCases, words_cases}
+use Rattle.sheets.proofs.Cases.{SheetsCases, sheets_cases}
+use Rattle.searches.proofs.SearchAnswers.{search_answered, full_with}
 use Rattle.searches.specs.StepThree.{pool, judging}
-use Rattle.searches.specs.StayCases.{StayAnswers, stay_answers}
-use Rattle.stay.specs.Cases.{MarginCases, margin_cases}
+use Rattle.searches.proofs.StayCases.{StayAnswers, stay_answers}
+use Rattle.stay.proofs.Cases.{MarginCases, margin_cases}
 use Rattle.searches.specs.Searches.{Limits, nodes, settings, search_refusal, Refused, Answered, search_call, full_of, Draw, AtLeastDraw, Full, Turned, full_call}
-use Rattle.games_checks.specs.Cases.{ChecksCases, checks_cases}
-use Rattle.matches.specs.MatchCases.{MatchCases, match_cases}
+use Rattle.games_checks.proofs.Cases.{ChecksCases, checks_cases}
+use Rattle.matches.proofs.MatchCases.{MatchCases, match_cases}
 use Rattle.ultimattt.specs.BudgetCases.{BudgetCases, budget_cases}
 use Rattle.ultimattt.specs.ChoiceCases.{ChoiceCases, choice_cases}
 use Rattle.ultimattt.specs.GamesCases.{GamesCases, games_cases}

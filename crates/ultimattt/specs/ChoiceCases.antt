@@ -5,16 +5,16 @@ use Rattle.rules.specs.Rules.{has_line, state, board, board_states, game_state, 
 use Rattle.rules.specs.Record.{bit_at, position_of, position_refusal, refusal_to6, impossible_choice, refusal, record_bit, record_of}
 use Rattle.rules.specs.Refusals.{first_refusal}
 use Rattle.rules.specs.Examples.{FA}
-use Rattle.plain.specs.Cases.{record21, E, D, computed_search}
+use Rattle.plain.proofs.Cases.{record21, E, D, computed_search}
 use Rattle.passes.specs.Passes.{total, unspent_at}
 use Rattle.calls.specs.Calls.{after_moves, output_refusal, replay_outcome, replay_call, moves_outcome, moves_call, referee_outcome, referee_refusal, referee_call}
 use Rattle.searches.specs.Searches.{search_refusal, Refused, search_call, Turned, full_call}
-use Rattle.searches.specs.StayCases.{by_bits, staying}
+use Rattle.searches.proofs.StayCases.{by_bits, staying}
 use Rattle.searches.specs.StepThree.{pool, judging}
 use Rattle.entries.specs.Entries.{holds_rule, holds_pair, find}
 use Rattle.entries.specs.declared.Caller.TheVariants.{Arbiter, Trainer}
 use Rattle.book.specs.Book.{Book, book_of, refused, lookup_refusal, lookup_call, add_refusal, add_call, publish_refusal, publish_call}
-use Rattle.book.specs.Cases.{blank, entry, judge}
+use Rattle.book.proofs.Cases.{blank, entry, judge}
 use Rattle.games_checks.specs.Checks.{number_refusal, earlier, earliest, lowest, settings_refusal}
 use Rattle.games.specs.Games.{games_call}
 use Rattle.ultimattt.specs.GamesCases.{Refuses, unlimited}

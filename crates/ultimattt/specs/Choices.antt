@@ -6,28 +6,29 @@ use Rattle.std.proofs.Math.Decide.{dec_lt}
 use Rattle.rules.specs.Rules.{has_line, state, board, board_states}
 use Rattle.rules.specs.Record.{bit_at, position_of, position_refusal, refusal_to6, impossible_choice, refusal}
 use Rattle.rules.specs.Refusals.{first_refusal}
-use Rattle.rules.specs.RefusalLaws.{first_refuses, last_refuses}
-use Rattle.rules.specs.Checks.{loads, loads_accepted}
-use Rattle.rules.specs.Roundtrip.{stored_loads}
-use Rattle.rules.specs.ChoiceLaws.{to_6_first, by_22, others_pass, accepted_can_be, no_move_leads, replay_accepted}
+use Rattle.rules.proofs.RefusalLaws.{first_refuses, last_refuses}
+use Rattle.rules.proofs.Checks.{loads, loads_accepted}
+use Rattle.rules.proofs.Roundtrip.{stored_loads}
+use Rattle.rules.proofs.ChoiceLaws.{to_6_first, by_22, others_pass, accepted_can_be, no_move_leads, replay_accepted}
 use Rattle.calls.specs.Calls.{replay_outcome, output_refusal, replay_call, moves_outcome, moves_call, referee_outcome, referee_call}
-use Rattle.calls.specs.Turned.{replay_refused, moves_refused, referee_record, referee_refused}
-use Rattle.calls.specs.Refusing.{refused_by}
+use Rattle.calls.proofs.Turned.{replay_refused, moves_refused, referee_record, referee_refused}
+use Rattle.calls.proofs.Refusing.{refused_by}
 use Rattle.searches.specs.Searches.{Limits, nodes, search_refusal, Refused, search_call, Turned, full_call}
-use Rattle.searches.specs.SearchAnswers.{search_refused, full_refused, answered}
+use Rattle.searches.specs.SearchAnswers.{answered}
+use Rattle.searches.proofs.SearchAnswers.{search_refused, full_refused}
 use Rattle.searches.specs.Accepting.{accepts}
 use Rattle.entries.specs.Entries.{Entry, find}
-use Rattle.entries.specs.Placing.{marked}
+use Rattle.entries.proofs.Placing.{marked}
 use Rattle.entries.specs.declared.Caller.{Caller}
 use Rattle.entries.specs.declared.Caller.TheVariants.{Arbiter}
 use Rattle.book.specs.Book.{Book, size, used, refused, lookup_refusal, lookup_call, add_refusal, add_call, publish_refusal, publish_call}
-use Rattle.book.specs.Kept.{stay_after}
+use Rattle.book.proofs.Kept.{stay_after}
 use Rattle.games_checks.specs.Checks.{games, record_at, number_refusal, refusal_at, Common}
 use Rattle.games.specs.Games.{games_call}
 use Rattle.games.specs.GamesStatement.{Named}
 use Rattle.matches.specs.Matches.{report}
 use Rattle.players.specs.Players.{Players, with_budget, larger, simulate_refusal, simulate_outcome, simulate_call}
-use Rattle.players.specs.Calling.{call_refused}
+use Rattle.players.proofs.Calling.{call_refused}
 use Rattle.ultimattt.specs.Budgets.{arbiter_first, promised}
 use Rattle.ultimattt.specs.ChoiceStatement.{unmarked, ChoiceStatement}
 

@@ -4,11 +4,11 @@ use Rattle.rules.specs.Rules.{has_line, state, board, board_states, game_state}
 use Rattle.rules.specs.Record.{bit_at, position_of, position_refusal, refusal_to6, impossible_choice, refusal}
 use Rattle.rules.specs.Refusals.{first_refusal}
 use Rattle.machine.specs.Machine.{Result, True, False, Unknown}
-use Rattle.plain.specs.Cases.{record21, E, W, D, fields, computed_search}
-use Rattle.plain.specs.Oracle.{ending_x}
+use Rattle.plain.proofs.Cases.{record21, E, W, D, fields, computed_search}
+use Rattle.plain.proofs.Oracle.{ending_x}
 use Rattle.passes.specs.Passes.{total, unspent_at}
 use Rattle.stay.specs.declared.Stay.TheVariants.{Off}
-use Rattle.searches.specs.StayCases.{C, by_bits}
+use Rattle.searches.proofs.StayCases.{C, by_bits}
 use Rattle.games_checks.specs.Checks.{Common, common, number_refusal, earlier, earliest, lowest, settings_refusal}
 use Rattle.games.specs.Games.{no_result, refused, games_call}
 

@@ -5,13 +5,13 @@ use Rattle.rules.specs.Rules.{has_line, state, board, board_states, game_state}
 use Rattle.rules.specs.Record.{bit_at, position_of, position_refusal, refusal_to6, impossible_choice, refusal}
 use Rattle.rules.specs.Refusals.{first_refusal}
 use Rattle.rules.specs.Examples.{FA}
-use Rattle.plain.specs.Cases.{record21, E, W, D}
-use Rattle.plain.specs.Oracle.{won_x, last_x, last_o, ending_x, ending_o}
+use Rattle.plain.proofs.Cases.{record21, E, W, D}
+use Rattle.plain.proofs.Oracle.{won_x, last_x, last_o, ending_x, ending_o}
 use Rattle.matches.specs.Matches.{Report, report}
-use Rattle.matches.specs.MatchCases.{computed_match}
+use Rattle.matches.proofs.MatchCases.{computed_match}
 use Rattle.stay.specs.declared.Stay.TheVariants.{Off}
 use Rattle.searches.specs.Searches.{search_refusal}
-use Rattle.searches.specs.StayCases.{C, by_bits}
+use Rattle.searches.proofs.StayCases.{C, by_bits}
 use Rattle.players.specs.Players.{Players, players, searcher, simulate_refusal, simulate_outcome, simulate_call}
 
 -- Judge's limit and interval, with two budgets; a pool of so many nodes.

@@ -4,10 +4,10 @@ use Rattle.rules.specs.Record.{position_refusal, refusal_to6, impossible_choice,
 use Rattle.rules.specs.Refusals.{first_refusal}
 use Rattle.machine.specs.Machine.{Result, True, False, Unknown}
 use Rattle.plain.specs.Plain.{plain_search}
-use Rattle.plain.specs.Cases.{record21, judge_with, fields, computed_search, D}
-use Rattle.plain.specs.Oracle.{won_x, last_x, last_o, last_two, ending_x, ending_o}
+use Rattle.plain.proofs.Cases.{record21, judge_with, fields, computed_search, D}
+use Rattle.plain.proofs.Oracle.{won_x, last_x, last_o, last_two, ending_x, ending_o}
 use Rattle.searches.specs.Searches.{nodes, settings, search_refusal, Answered, search_call, full_of, AtLeastDraw, Full, full_call}
-use Rattle.searches.specs.SearchAnswers.{search_answered, full_with}
+use Rattle.searches.proofs.SearchAnswers.{search_answered, full_with}
 use Rattle.searches.specs.StepThree.{pool, judging}
 
 -- As W, but the third of X's five moves wins, or the last; and O to move, whose first move wins.

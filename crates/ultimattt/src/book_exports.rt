@@ -12,7 +12,7 @@ use searches::SearchLimits;
 // The answer of lookup as C has it: code is 0 or the refusal's number; index is 0; verdict is 1 for True, 2 for False, 0 if the pair is not held and with a
 // refusal.
 #[repr(C)]
-#[derive(Drop)]
+#[derive(Clone, Copy)]
 pub struct LookupAnswer {
     pub code: u32,
     pub index: u64,
@@ -49,7 +49,7 @@ pub extern "C" fn uttt_book_lookup(
 // The answer of add as C has it: code is 0 or the refusal's number; index is 0; verdict is 1 for True, 2 for False, 0 for Unknown and with a refusal; count is
 // the count of used entries afterwards, with a refusal the one that came in.
 #[repr(C)]
-#[derive(Drop)]
+#[derive(Clone, Copy)]
 pub struct AddAnswer {
     pub code: u32,
     pub index: u64,
@@ -111,7 +111,7 @@ pub extern "C" fn uttt_book_add(
 
 // The answer of publish as C has it: code is 0 or the refusal's number; index is 0; published is 1, or 0 if the pair is not held and with a refusal.
 #[repr(C)]
-#[derive(Drop)]
+#[derive(Clone, Copy)]
 pub struct PublishAnswer {
     pub code: u32,
     pub index: u64,

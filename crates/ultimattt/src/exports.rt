@@ -30,7 +30,7 @@ fn error_number(e: MoveError) -> u32
 
 // The answer of replay as C has it: code is 0 or the refusal's number, index the bad move's with 11 to 15 and 0 elsewhere.
 #[repr(C)]
-#[derive(Drop)]
+#[derive(Clone, Copy)]
 pub struct ReplayAnswer {
     pub code: u32,
     pub index: u64,
@@ -56,7 +56,7 @@ pub extern "C" fn uttt_replay(bytes: &[u8], moves: &[u8], out: &mut [u8]) -> Rep
 
 // The answer of legal moves as C has it: code is 0 or the refusal's number, index 0, count how many moves were written.
 #[repr(C)]
-#[derive(Drop)]
+#[derive(Clone, Copy)]
 pub struct MovesAnswer {
     pub code: u32,
     pub index: u64,
@@ -84,7 +84,7 @@ pub extern "C" fn uttt_legal_moves(bytes: &[u8], out: &mut [u8]) -> MovesAnswer
 
 // The answer of referee as C has it: code is 0 or the refusal's number; index is 0; value is 1 for True, 2 for False, and 0 with a refusal.
 #[repr(C)]
-#[derive(Drop)]
+#[derive(Clone, Copy)]
 pub struct RefereeAnswer {
     pub code: u32,
     pub index: u64,
@@ -127,7 +127,7 @@ pub extern "C" fn uttt_agreed_opening(
 
 // The nine fields of a result as C has them: verdict is 0 Unknown, 1 True, 2 False.
 #[repr(C)]
-#[derive(Drop)]
+#[derive(Clone, Copy)]
 pub struct ResultFields {
     pub verdict: u32,
     pub proof: u32,
@@ -177,7 +177,7 @@ pub fn no_fields() -> ResultFields
 
 // The answer of search as C has it: code is 0 or the refusal's number; index is 0; the result's fields, all 0 with a refusal.
 #[repr(C)]
-#[derive(Drop)]
+#[derive(Clone, Copy)]
 pub struct SearchAnswer {
     pub code: u32,
     pub index: u64,
@@ -238,7 +238,7 @@ fn full_number(v: FullVerdict) -> u32
 // The answer of full verdict as C has it: code is 0 or the refusal's number; index is 0; the verdict's number and the fields of the results under rules 1 and 2,
 // all 0 with a refusal.
 #[repr(C)]
-#[derive(Drop)]
+#[derive(Clone, Copy)]
 pub struct FullAnswer {
     pub code: u32,
     pub index: u64,

@@ -33,7 +33,7 @@ fn all_fields(results: [SearchResult; MOST_GAMES]) -> [ResultFields; MOST_GAMES]
 // The answer as C has it: code is 0 or the refusal's number; index is the game's whose record was refused with 2 to 6 or 22, and 0 elsewhere; count is how many games
 // there are, 0 with a refusal; the fields of their results, all 0 past the last game.
 #[repr(C)]
-#[derive(Drop)]
+#[derive(Clone, Copy)]
 pub struct GamesAnswer {
     pub code: u32,
     pub index: u64,

@@ -9,7 +9,7 @@ use players::{Players, Simulated};
 
 // The answer as C has it: code is 0 or the refusal's number; index is 0; the report's numbers, all 0 with a refusal.
 #[repr(C)]
-#[derive(Drop)]
+#[derive(Clone, Copy)]
 pub struct SimulateAnswer {
     pub code: u32,
     pub index: u64,

@@ -10,14 +10,14 @@ use line::{Count, Number};
 const PATTERN: u8 = 0xA5;
 
 // The answer that is stored: 0 or a refusal's number; the refusal's index, 0 with a result; and how many moves there are, or the number of a value or a full verdict, 0 elsewhere.
-#[derive(Drop)]
+#[derive(Clone, Copy)]
 pub enum Stored {
     Answer(u64, u64, u64),
     Unreadable,
 }
 
 // What an answer that is no refusal has in its line: a record; a count and so many moves; a count and a record.
-#[derive(Drop)]
+#[derive(Clone, Copy)]
 pub enum Form {
     Record,
     Moves,
@@ -25,7 +25,7 @@ pub enum Form {
 }
 
 // What became of a line.
-#[derive(Drop)]
+#[derive(Clone, Copy)]
 pub enum Outcome {
     Agreed,
     Differs,

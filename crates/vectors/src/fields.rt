@@ -10,7 +10,7 @@ use ultimattt::exports::ResultFields;
 const PATTERN: u32 = 0xA5A5A5A5;
 
 // A place in a line, if all before it could be read.
-#[derive(Drop)]
+#[derive(Clone, Copy)]
 pub enum Place {
     At(usize),
     Unreadable,

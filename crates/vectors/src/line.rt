@@ -5,21 +5,21 @@ ghost use Rattle.std.specs.Prelude.{◌≤◌, ◌≡◌, true, length};
 ghost use Rattle.vectors.specs.Words.{First, Inside, word_of, hex_value, Counted};
 
 // The bytes of a word stand from start on, up to end.
-#[derive(Drop)]
+#[derive(Clone, Copy)]
 pub struct Word {
     pub start: usize,
     pub end: usize,
 }
 
 // How many bytes a word spells, and the place after it.
-#[derive(Drop)]
+#[derive(Clone, Copy)]
 pub enum Count {
     Bytes(usize, usize),
     Unreadable,
 }
 
 // The number that a word spells, and the place after it.
-#[derive(Drop)]
+#[derive(Clone, Copy)]
 pub enum Number {
     Value(u64, usize),
     Unreadable,

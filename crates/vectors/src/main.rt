@@ -1,5 +1,8 @@
 // Runs a stored list of the oracle's answers over the library. Standard input has lines `CALL => ANSWER`.
 // Each line whose answer differs or that can't be read is named; in the end come the number of lines and how many agreed.
+
+#![tactic(auto)]
+
 mod answers;
 mod books;
 mod calls;

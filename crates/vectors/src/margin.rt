@@ -14,14 +14,14 @@ const INFINITY: u64 = 0x7FF0000000000000;
 const SIGN: u64 = 0x8000000000000000;
 
 // Whether to stay; the margin, 0.0 if not; and the place after the arrow.
-#[derive(Drop)]
+#[derive(Clone, Copy)]
 pub struct Staying {
     pub staying: bool,
     pub margin: f64,
     pub place: usize,
 }
 
-#[derive(Drop)]
+#[derive(Clone, Copy)]
 pub enum Margin {
     Read(Staying),
     Unreadable,

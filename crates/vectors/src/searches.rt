@@ -14,7 +14,7 @@ use ultimattt::exports::{FullAnswer, SearchAnswer};
 pub const MOST_NODES: u64 = 4096;
 
 // How many words of a pool are lent, the limits of a search, its margin, and the place after them.
-#[derive(Drop)]
+#[derive(Clone, Copy)]
 pub struct Settings {
     pub words: usize,
     pub limit: u64,
@@ -25,7 +25,7 @@ pub struct Settings {
     pub place: usize,
 }
 
-#[derive(Drop)]
+#[derive(Clone, Copy)]
 pub enum Reading {
     Read(Settings),
     Unreadable,

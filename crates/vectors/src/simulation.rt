@@ -9,7 +9,7 @@ use searches::MOST_NODES;
 use ultimattt::players_exports::SimulateAnswer;
 
 // The numbers of a line in its order, and the place after them.
-#[derive(Drop)]
+#[derive(Clone, Copy)]
 struct Players {
     seed: u64,
     games: u64,
@@ -21,7 +21,7 @@ struct Players {
     place: usize,
 }
 
-#[derive(Drop)]
+#[derive(Clone, Copy)]
 enum Reading {
     Read(Players),
     Unreadable,

@@ -2,14 +2,7 @@ pub mod PackedWord
 pub mod Packed
 pub mod Words
 pub mod Trees
-pub mod Unique
 pub mod Free
 pub mod Freeing
 pub mod Pool
-pub mod Current
-pub mod Steps
-pub mod Making
 pub mod Walks
-pub mod Store
-pub mod States
-pub mod Leaves

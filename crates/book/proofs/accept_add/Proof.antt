@@ -1,7 +1,7 @@
 -- `book::accept_add` meets its contract: 19, search's checks, and 17 after them. Assumes nothing.
 use mathlib.Core.Path.{sym, ◌∙◌}
-use Rattle.rules.specs.RefusalLaws.{none_refuses}
-use Rattle.book.specs.ByCheck.{add_code}
+use Rattle.rules.proofs.RefusalLaws.{none_refuses}
+use Rattle.book.proofs.ByCheck.{add_code}
 use borrow.Author.Rules.{rules}
 use Rattle.book.proofs.accept_add.Statement.{statement}
 use Rattle.book.proofs.accept_add.Tie as tie

@@ -4,7 +4,7 @@ use native.Mathlib.Omega.{arith}
 use lib.ListN.{length}
 use Rattle.searches.specs.Answers.{limits_of}
 use Rattle.book.specs.Book.{book_of}
-use Rattle.book.specs.ByCheck.{add_turned, add_scans, add_accepted, add_held, add_full, add_searched}
+use Rattle.book.proofs.ByCheck.{add_turned, add_scans, add_accepted, add_held, add_full, add_searched}
 use borrow.Author.Rules.{rules}
 use Rattle.book.proofs.add.Statement.{statement}
 use Rattle.book.proofs.add.Tie as tie

@@ -1,5 +1,5 @@
 -- `book::broken` meets its contract, by the test that decides. Assumes nothing.
-use Rattle.book.specs.ByCheck.{bytes_over, whole_entries}
+use Rattle.book.proofs.ByCheck.{bytes_over, whole_entries}
 use Rattle.book.proofs.broken.Statement.{statement}
 use Rattle.book.proofs.broken.Tie as tie
 

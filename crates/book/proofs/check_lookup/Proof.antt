@@ -1,5 +1,5 @@
 -- `book::check_lookup` meets its contract, check by check. Assumes nothing.
-use Rattle.book.specs.ByCheck.{lookup_code}
+use Rattle.book.proofs.ByCheck.{lookup_code}
 use borrow.Author.Rules.{rules}
 use Rattle.book.proofs.check_lookup.Statement.{statement}
 use Rattle.book.proofs.check_lookup.Tie as tie

@@ -1,5 +1,5 @@
 -- `book::check_publish` meets its contract: 19, and lookup's checks after it. Assumes nothing.
-use Rattle.book.specs.ByCheck.{publish_code}
+use Rattle.book.proofs.ByCheck.{publish_code}
 use borrow.Author.Rules.{rules}
 use Rattle.book.proofs.check_publish.Statement.{statement}
 use Rattle.book.proofs.check_publish.Tie as tie

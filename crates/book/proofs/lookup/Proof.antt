@@ -1,5 +1,5 @@
 -- `book::lookup` meets its contract: refused by a check, or what the scan found. Assumes nothing.
-use Rattle.book.specs.ByCheck.{lookup_turned, lookup_scans, lookup_found}
+use Rattle.book.proofs.ByCheck.{lookup_turned, lookup_scans, lookup_found}
 use borrow.Author.Rules.{rules}
 use Rattle.book.proofs.lookup.Statement.{statement}
 use Rattle.book.proofs.lookup.Tie as tie

@@ -1,7 +1,7 @@
 -- `book::publish` meets its contract, by the check that decides or by the place of the first entry that holds the pair. Assumes nothing.
 use native.Mathlib.Omega.{arith}
 use Rattle.book.specs.Book.{book_of}
-use Rattle.book.specs.ByCheck.{publish_turned, publish_scans, publish_missing, publish_marks}
+use Rattle.book.proofs.ByCheck.{publish_turned, publish_scans, publish_missing, publish_marks}
 use borrow.Author.Rules.{rules}
 use Rattle.book.proofs.publish.Statement.{statement}
 use Rattle.book.proofs.publish.Tie as tie

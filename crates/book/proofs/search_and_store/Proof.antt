@@ -2,12 +2,12 @@
 use mathlib.Core.Path.{ap, ◌∙◌}
 use native.Mathlib.Omega.{arith}
 use Prim.Native.Nat.{◌<◌}
-use Rattle.rules.specs.Checks.{loads_length}
+use Rattle.rules.proofs.Checks.{loads_length}
 use Rattle.machine.specs.Machine.{Result}
 use Rattle.prove.specs.Numbers.{verdict, verdict_number}
 use Rattle.searches.specs.Accepting.{accepts}
 use Rattle.book.specs.Book.{book_of}
-use Rattle.book.specs.ByCheck.{number_few, none_stored, one_stored}
+use Rattle.book.proofs.ByCheck.{number_few, none_stored, one_stored}
 use borrow.Author.Rules.{rules}
 use Rattle.book.proofs.search_and_store.Statement.{statement}
 use Rattle.book.proofs.search_and_store.Tie as tie

@@ -1,8 +1,8 @@
 -- `calls::legal_moves` meets its contract: refused by a check, or the moves written. Assumes nothing.
 use mathlib.Core.Path.{sym, ◌∙◌}
 use Rattle.rules.specs.Record.{position_of}
-use Rattle.calls.specs.Writing.{written_listed}
-use Rattle.calls.specs.Turned.{output_passes, moves_refused, moves_answered}
+use Rattle.calls.proofs.Writing.{written_listed}
+use Rattle.calls.proofs.Turned.{output_passes, moves_refused, moves_answered}
 use borrow.Author.Rules.{rules}
 use Rattle.calls.proofs.legal_moves.Statement.{statement}
 use Rattle.calls.proofs.legal_moves.Tie as tie

@@ -1,6 +1,6 @@
 -- `calls::load_for` meets its contract, check by check. Assumes nothing.
 use mathlib.Core.Path.{sym, ◌∙◌}
-use Rattle.rules.specs.RefusalLaws.{none_refuses}
+use Rattle.rules.proofs.RefusalLaws.{none_refuses}
 use Rattle.calls.specs.Calls.{output_refusal}
 use borrow.Author.Rules.{rules}
 use Rattle.calls.proofs.load_for.Statement.{statement}

@@ -3,7 +3,7 @@ use Prim.Native.Nat.{◌-◌}
 use native.Mathlib.Omega.{arith}
 use lib.ListN.{length}
 use borrow.Author.Rules.{rules}
-use Rattle.calls.specs.Playing.{Playing, playing_start, playing_held, playing_step, playing_bad, playing_done}
+use Rattle.calls.proofs.Playing.{Playing, playing_start, playing_held, playing_step, playing_bad, playing_done}
 use Rattle.calls.proofs.play_line.Statement.{statement}
 use Rattle.calls.proofs.play_line.Tie as tie
 

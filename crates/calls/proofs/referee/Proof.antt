@@ -1,8 +1,8 @@
 -- `calls::referee` meets its contract: refused by the record, or by what is checked after it, or the value. Assumes nothing.
 use mathlib.Core.Path.{sym, ◌∙◌}
 use Rattle.rules.specs.Record.{position_of}
-use Rattle.rules.specs.Checks.{loads, loads_accepted}
-use Rattle.calls.specs.Turned.{referee_record, referee_late, referee_refused, referee_answered}
+use Rattle.rules.proofs.Checks.{loads, loads_accepted}
+use Rattle.calls.proofs.Turned.{referee_record, referee_late, referee_refused, referee_answered}
 use borrow.Author.Rules.{rules}
 use Rattle.calls.proofs.referee.Statement.{statement}
 use Rattle.calls.proofs.referee.Tie as tie

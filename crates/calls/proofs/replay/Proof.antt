@@ -1,7 +1,7 @@
 -- `calls::replay` meets its contract: refused by a check, or the moves replayed. Assumes nothing.
 use mathlib.Core.Path.{sym, ◌∙◌}
 use Rattle.rules.specs.Record.{position_of}
-use Rattle.calls.specs.Turned.{output_passes, replay_refused, replay_answered}
+use Rattle.calls.proofs.Turned.{output_passes, replay_refused, replay_answered}
 use borrow.Author.Rules.{rules}
 use Rattle.calls.proofs.replay.Statement.{statement}
 use Rattle.calls.proofs.replay.Tie as tie

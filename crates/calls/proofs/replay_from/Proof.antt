@@ -1,6 +1,6 @@
 -- `calls::replay_from` meets its contract: the record of the position reached, or the first bad move. Assumes nothing.
-use Rattle.calls.specs.Turned.{after_reached, after_bad}
-use Rattle.calls.specs.Playing.{played_ok, played_bad}
+use Rattle.calls.proofs.Turned.{after_reached, after_bad}
+use Rattle.calls.proofs.Playing.{played_ok, played_bad}
 use borrow.Author.Rules.{rules}
 use Rattle.calls.proofs.replay_from.Statement.{statement}
 use Rattle.calls.proofs.replay_from.Tie as tie

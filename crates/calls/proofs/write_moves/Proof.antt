@@ -3,7 +3,7 @@ use Prim.Native.Nat.{◌-◌}
 use native.Mathlib.Omega.{arith}
 use borrow.Author.Rules.{rules}
 use Rattle.game.specs.Cursor.{next_is, end_is}
-use Rattle.calls.specs.Writing.{Writing, writing_start, writing_room, writing_step, writing_less, writing_done}
+use Rattle.calls.proofs.Writing.{Writing, writing_start, writing_room, writing_step, writing_less, writing_done}
 use Rattle.calls.proofs.write_moves.Statement.{statement}
 use Rattle.calls.proofs.write_moves.Tie as tie
 

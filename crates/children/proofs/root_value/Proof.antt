@@ -2,7 +2,7 @@
 use mathlib.Core.Path.{ap, ◌∙◌}
 use Rattle.rules.specs.Record.{player_of}
 use Rattle.evaluate.specs.Final.{position_verdict}
-use Rattle.rules.specs.Roundtrip.{side_back}
+use Rattle.rules.proofs.Roundtrip.{side_back}
 use Rattle.children.specs.Leaves.{can_move_accepted, verdict_evaluated}
 use borrow.Author.Rules.{rules}
 use Rattle.children.proofs.root_value.Statement.{statement}

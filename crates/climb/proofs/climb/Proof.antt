@@ -5,7 +5,8 @@ use Prim.Native.Nat.{suc}
 use native.Mathlib.Omega.{arith}
 use lib.ListN.{length}
 use Rattle.plain.specs.Plain.{game}
-use Rattle.words.specs.Words.{Beyond, beyond_trans}
+use Rattle.words.specs.Words.{Beyond}
+use Rattle.words.proofs.Words.{beyond_trans}
 use Rattle.words.specs.Freeing.{plies}
 use Rattle.climb.specs.Asks.{climbed, Climbable, Ascending, Way}
 use Rattle.climb.specs.Turns.{starts, goes_on, ends}

@@ -2,7 +2,7 @@
 use mathlib.Core.Path.{◌≡◌, sym, ◌∙◌}
 use Rattle.machine.specs.Place.{pool_max}
 use Rattle.words.specs.Words.{NONE}
-use Rattle.words.specs.Walks.{siblings, Standing, standing}
+use Rattle.words.proofs.Walks.{siblings, Standing, standing}
 use Rattle.node_pool.specs.Exists.{exists_yes, exists_no}
 use Rattle.climb.specs.Asks.{Recomputable}
 use Rattle.climb.specs.Changed.{Passing, passing_start, passing_found, passing_next, passing_end}

@@ -5,7 +5,8 @@ use native.Mathlib.Omega.{arith}
 use Rattle.machine.specs.Tree.{u32_max}
 use Rattle.machine.specs.Place.{pool_max}
 use Rattle.words.specs.Words.{NONE}
-use Rattle.words.specs.Walks.{siblings, Standing, standing, Summing, summing_start, summing_step, summing_end, summing_walks}
+use Rattle.words.specs.Walks.{Summing}
+use Rattle.words.proofs.Walks.{siblings, Standing, standing, summing_start, summing_step, summing_end, summing_walks}
 use Rattle.node_pool.specs.Exists.{exists_yes, exists_no}
 use Rattle.climb.specs.Asks.{Recomputable}
 use borrow.Author.Rules.{rules}

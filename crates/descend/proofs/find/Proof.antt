@@ -4,7 +4,7 @@ use Rattle.machine.specs.Place.{pool_max}
 use Rattle.rules.specs.Rules.{Position}
 use Rattle.words.specs.Packed.{View, move_in}
 use Rattle.words.specs.Words.{NONE, PACKED, word}
-use Rattle.words.specs.Walks.{siblings, Standing}
+use Rattle.words.proofs.Walks.{siblings, Standing}
 use Rattle.node_pool.specs.Exists.{exists_yes, exists_no}
 use Rattle.descend.specs.Finding.{Sought, sought_here, sought_next, sought_found, sought_none}
 use borrow.Author.Rules.{rules}

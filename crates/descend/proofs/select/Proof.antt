@@ -1,6 +1,6 @@
 -- `descend::select` meets its contract: the walk comes to the child that step 2 takes; the siblings left fall. Assumes nothing.
 use Rattle.machine.specs.Place.{pool_max}
-use Rattle.words.specs.Walks.{siblings}
+use Rattle.words.proofs.Walks.{siblings}
 use Rattle.descend.specs.Selecting.{Selecting, walked_slot, first_slot, selecting_start, selecting_next, selecting_less, selecting_done}
 use Rattle.descend.proofs.select.Statement.{statement}
 use Rattle.descend.proofs.select.Tie as tie

@@ -9,7 +9,7 @@ use Rattle.pn.specs.declared.Settings.{Settings}
 use Rattle.resume.specs.Keeping.{Stopped}
 use Rattle.resume.specs.declared.Kept.{Kept}
 use Rattle.games.specs.Playing.{First}
-use Rattle.games.specs.FirstPasses.{part_fits, record_fits, record_holds, to_first, first_accepted, unspent_enough, first_start, first_next, first_done}
+use Rattle.games.proofs.FirstPasses.{part_fits, record_fits, record_holds, to_first, first_accepted, unspent_enough, first_start, first_next, first_done}
 use Rattle.games.proofs.first_pass.Statement.{statement}
 use Rattle.games.proofs.first_pass.Tie as tie
 

@@ -4,9 +4,9 @@ use native.Mathlib.Nat.{div-le_self}
 use native.Mathlib.Omega.{arith}
 use Rattle.games_checks.specs.Checks.{games, shares_of, settings_refusal}
 use Rattle.games_checks.specs.Common.{common_of}
-use Rattle.games_checks.specs.Passing.{counted}
-use Rattle.games.specs.Calling.{call_number, call_record, call_settings, to_play, passes_answer}
-use Rattle.games.specs.Promising.{keeps, keeps_refused}
+use Rattle.games_checks.proofs.Passing.{counted}
+use Rattle.games.proofs.Calling.{call_number, call_record, call_settings, to_play, passes_answer}
+use Rattle.games.proofs.Promising.{keeps, keeps_refused}
 use borrow.Author.Rules.{rules}
 use Rattle.games.proofs.judge_games.Statement.{statement}
 use Rattle.games.proofs.judge_games.Tie as tie

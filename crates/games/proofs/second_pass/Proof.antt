@@ -6,8 +6,8 @@ use borrow.Author.Rules.{rules}
 use lib.ListN.{get_or-replicate}
 use Rattle.pn.specs.Results.{result_of}
 use Rattle.games.specs.Playing.{Second}
-use Rattle.games.specs.FirstPasses.{part_fits}
-use Rattle.games.specs.SecondPasses.{to_second, second_start, second_next, second_done}
+use Rattle.games.proofs.FirstPasses.{part_fits}
+use Rattle.games.proofs.SecondPasses.{to_second, second_start, second_next, second_done}
 use Rattle.games.proofs.second_pass.Statement.{statement}
 use Rattle.games.proofs.second_pass.Tie as tie
 

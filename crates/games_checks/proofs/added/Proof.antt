@@ -1,5 +1,5 @@
 -- `games_checks::added` meets its contract. Assumes nothing.
-use Rattle.games_checks.specs.Sums.{summing_within, summing_above}
+use Rattle.games_checks.proofs.Sums.{summing_within, summing_above}
 use borrow.Author.Rules.{rules}
 use Rattle.games_checks.proofs.added.Statement.{statement}
 use Rattle.games_checks.proofs.added.Tie as tie

@@ -1,7 +1,7 @@
 -- `games_checks::check_settings` meets its contract, check by check: the places are named from the last check back to the sum. Assumes nothing.
 use Rattle.games_checks.specs.Checks.{shares_of}
 use Rattle.games_checks.specs.Common.{common_of}
-use Rattle.games_checks.specs.Passing.{settings_refuse}
+use Rattle.games_checks.proofs.Passing.{settings_refuse}
 use borrow.Author.Rules.{rules}
 use Rattle.games_checks.proofs.check_settings.Statement.{statement}
 use Rattle.games_checks.proofs.check_settings.Tie as tie

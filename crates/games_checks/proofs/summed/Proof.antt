@@ -1,7 +1,7 @@
 -- `games_checks::summed` meets its contract. Assumes nothing.
 use native.Mathlib.Omega.{arith}
 use borrow.Author.Rules.{rules}
-use Rattle.games_checks.specs.Sums.{Summed, summed_start, summed_next, summed_done, summed_room}
+use Rattle.games_checks.proofs.Sums.{Summed, summed_start, summed_next, summed_done, summed_room}
 use Rattle.games_checks.proofs.summed.Statement.{statement}
 use Rattle.games_checks.proofs.summed.Tie as tie
 

@@ -1,8 +1,8 @@
 -- `players::accept` meets its contract: search's checks, and 23 after them. Assumes nothing.
 use Rattle.std.proofs.Common.{sym, ◌∙◌, rules}
-use Rattle.rules.specs.RefusalLaws.{none_refuses}
+use Rattle.rules.proofs.RefusalLaws.{none_refuses}
 use Rattle.players.specs.Answers.{players_of}
-use Rattle.players.specs.Calling.{accept_code}
+use Rattle.players.proofs.Calling.{accept_code}
 use Rattle.players.proofs.accept.Statement.{statement}
 use Rattle.players.proofs.accept.Tie as tie
 

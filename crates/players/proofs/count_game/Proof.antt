@@ -1,6 +1,6 @@
 -- `players::count_game` meets its contract: each number goes up by one where the state is its own. Assumes nothing.
 use Rattle.std.proofs.Common.{◌∙◌, rules}
-use Rattle.players.specs.Matching.{counts}
+use Rattle.players.proofs.Matching.{counts}
 use Rattle.players.proofs.count_game.Statement.{statement}
 use Rattle.players.proofs.count_game.Tie as tie
 

@@ -1,7 +1,8 @@
 -- `players::look_for_win` meets its contract: the moves before i are passed over; the measure is how many are left. Assumes nothing.
 use Rattle.std.proofs.Common.{◌-◌, sym, ◌∙◌, arith, rules}
-use Rattle.rules.specs.LegalMoves.{moves_few}
-use Rattle.players.specs.Turning.{Looking, looking_start, looking_movable, looking_searchable, looking_fits, looking_wins, looking_next, looking_none}
+use Rattle.rules.proofs.LegalMoves.{moves_few}
+use Rattle.players.specs.Turning.{Looking, looking_searchable, looking_fits, looking_wins, looking_next}
+use Rattle.players.proofs.Turning.{looking_start, looking_movable, looking_none}
 use Rattle.players.proofs.look_for_win.Statement.{statement}
 use Rattle.players.proofs.look_for_win.Tie as tie
 

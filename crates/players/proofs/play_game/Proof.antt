@@ -1,7 +1,8 @@
 -- `players::play_game` meets its contract: from the position reached the rest of the game leads to the same end; the measure is the number of empty cells. Assumes nothing.
 use Rattle.std.proofs.Common.{arith}
 use Rattle.referee.specs.Turns.{empty_in}
-use Rattle.players.specs.Gaming.{Gaming, gaming_start, gaming_held, gaming_turnable, gaming_movable, gaming_fits, gaming_less, gaming_next, gaming_over}
+use Rattle.players.specs.Gaming.{Gaming, gaming_turnable, gaming_movable, gaming_fits, gaming_less, gaming_next, gaming_over}
+use Rattle.players.proofs.Gaming.{gaming_start, gaming_held}
 use Rattle.players.proofs.play_game.Statement.{statement}
 use Rattle.players.proofs.play_game.Tie as tie
 

@@ -1,6 +1,6 @@
 -- `players::play_match` meets its contract: the games played and those that are left make the report; the measure is how many are left. Assumes nothing.
 use Rattle.std.proofs.Common.{◌-◌, arith, rules}
-use Rattle.players.specs.Matching.{Matching, matching_start, matching_ready, matching_countable, matching_next, matching_done}
+use Rattle.players.proofs.Matching.{Matching, matching_start, matching_ready, matching_countable, matching_next, matching_done}
 use Rattle.players.proofs.play_match.Statement.{statement}
 use Rattle.players.proofs.play_match.Tie as tie
 

@@ -1,5 +1,5 @@
 -- `players::settings_for` meets its contract, by side. Assumes nothing.
-use Rattle.players.specs.Answers.{settings_x, settings_o}
+use Rattle.players.proofs.Answers.{settings_x, settings_o}
 use Rattle.players.proofs.settings_for.Statement.{statement}
 use Rattle.players.proofs.settings_for.Tie as tie
 

@@ -2,8 +2,8 @@
 use Rattle.std.proofs.Common.{ap, ◌∙◌, rules}
 use Rattle.players.specs.Players.{simulate_refusal, in_play}
 use Rattle.players.specs.Answers.{players_of}
-use Rattle.players.specs.Calling.{call_refused, pool_refused, to_play, played_answer, played_pool}
-use Rattle.players.specs.Promising.{keeps}
+use Rattle.players.proofs.Calling.{call_refused, pool_refused, to_play, played_answer, played_pool}
+use Rattle.players.proofs.Promising.{keeps}
 use Rattle.players.proofs.simulate.Statement.{statement}
 use Rattle.players.proofs.simulate.Tie as tie
 

@@ -2,9 +2,10 @@
 use Rattle.std.proofs.Common.{arith, rules}
 use Rattle.rules.specs.Rules.{Position}
 use Rattle.rules.specs.Record.{Accepted}
-use Rattle.rules.specs.LegalMoves.{moves_few}
+use Rattle.rules.proofs.LegalMoves.{moves_few}
 use Rattle.game.specs.Words.{Holds}
-use Rattle.players.specs.Turning.{Looks, to_look, turnable_some, turned_wins, turned_drawn}
+use Rattle.players.specs.Turning.{Looks}
+use Rattle.players.proofs.Turning.{to_look, turnable_some, turned_wins, turned_drawn}
 use Rattle.players.proofs.take_turn.Statement.{statement}
 use Rattle.players.proofs.take_turn.Tie as tie
 

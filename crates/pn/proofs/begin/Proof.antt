@@ -7,7 +7,7 @@ use lib.ListN.{length-set}
 use lib.Seq.{get_or-set_same}
 use Rattle.prove.specs.Numbers.{number}
 use Rattle.words.specs.Packed.{pack, bit}
-use Rattle.words.specs.Free.{all_spare}
+use Rattle.words.proofs.Free.{all_spare}
 use Rattle.pn.specs.Beginning.{root_and, begun}
 use borrow.Author.Rules.{rules}
 use Rattle.pn.proofs.begin.Statement.{statement}

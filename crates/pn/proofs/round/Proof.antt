@@ -1,7 +1,7 @@
 -- `pn::round` meets its contract, step by step. Assumes nothing.
 use mathlib.Core.Path.{refl, ◌∙◌}
 use Rattle.machine.specs.Machine as machine
-use Rattle.words.specs.Words.{beyond_trans}
+use Rattle.words.proofs.Words.{beyond_trans}
 use Rattle.pn.specs.Rounding.{to_search, tick_left, freed_fewer}
 use Rattle.pn.specs.Steps.{to_room, short_is, to_expand, to_climb}
 use Rattle.pn.specs.Stepping.{stepped_short, stepped_on}

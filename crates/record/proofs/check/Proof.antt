@@ -5,8 +5,8 @@ use native.Mathlib.Omega.{arith}
 use borrow.Author.Tests.{eq-eqb, ne_eqb}
 use borrow.Author.Rules.{rules}
 use Rattle.rules.specs.Refusals.{first_refusal}
-use Rattle.rules.specs.RefusalLaws.{last_refuses}
-use Rattle.rules.specs.Roundtrip.{side_lt}
+use Rattle.rules.proofs.RefusalLaws.{last_refuses}
+use Rattle.rules.proofs.Roundtrip.{side_lt}
 use Rattle.game.specs.Lines.{line_in}
 use Rattle.record.specs.Checked.{target_law, coded_law, states_lt, own_lt, os_few}
 use Rattle.record.proofs.check.Statement.{statement}

@@ -3,7 +3,7 @@ use mathlib.Core.Path.{sym, ◌∙◌}
 use native.Mathlib.Omega.{arith}
 use borrow.Author.Rules.{rules}
 use Rattle.rules.specs.Refusals.{first_refusal}
-use Rattle.rules.specs.RefusalLaws.{first_refuses}
+use Rattle.rules.proofs.RefusalLaws.{first_refuses}
 use Rattle.record.proofs.check_choice.Statement.{statement}
 use Rattle.record.proofs.check_choice.Tie as tie
 

@@ -5,10 +5,10 @@ use native.Mathlib.Omega.{arith}
 use lib.ListN.{get_or, length}
 use borrow.Author.Rules.{rules}
 use Rattle.rules.specs.Record.{bit_at, position_of}
-use Rattle.rules.specs.Roundtrip.{load_whole}
+use Rattle.rules.proofs.Roundtrip.{load_whole}
 use Rattle.cells.specs.Reading.{CellsRead}
-use Rattle.cells.specs.WordLaws.{side_in, target_in, last_in}
-use Rattle.cells.specs.CellLaws.{words_read}
+use Rattle.cells.proofs.WordLaws.{side_in, target_in, last_in}
+use Rattle.cells.proofs.CellLaws.{words_read}
 use Rattle.record.specs.Loading.{refused_1, refused_2, refused_later, fields, some_fields}
 use Rattle.record.proofs.load_to_6.Statement.{statement}
 use Rattle.record.proofs.load_to_6.Tie as tie

@@ -2,10 +2,10 @@
 use Prim.Native.Nat.{◌≤◌, ◌*◌, ◌-◌}
 use mathlib.Core.Path.{◌≡◌, refl}
 use native.Mathlib.Omega.{arith}
-use Rattle.rules.specs.Bits.{Gathers, gather_room, gather_fits, gather_next}
+use Rattle.rules.proofs.Bits.{Gathers, gather_room, gather_fits, gather_next}
 use Rattle.rules.specs.Rules.{Position}
 use Rattle.rules.specs.Record.{record_bit}
-use Rattle.rules.specs.Roundtrip.{record_bits}
+use Rattle.rules.proofs.Roundtrip.{record_bits}
 use Rattle.game.specs.Words.{Holds}
 use Rattle.record.proofs.record_byte.Statement.{statement}
 use Rattle.record.proofs.record_byte.Tie as tie

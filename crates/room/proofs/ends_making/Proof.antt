@@ -2,7 +2,7 @@
 use mathlib.Core.Path.{refl}
 use native.Mathlib.Omega.{arith}
 use borrow.Author.Rules.{rules}
-use Rattle.rules.specs.Legal.{legal}
+use Rattle.rules.proofs.Legal.{legal}
 use Rattle.children.specs.After.{outer_small}
 use Rattle.room.specs.ChildCount.{made_child, ends_is}
 use Rattle.room.proofs.ends_making.Statement.{statement}

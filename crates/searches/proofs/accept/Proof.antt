@@ -2,8 +2,8 @@
 use mathlib.Core.Path.{sym, ap, ◌∙◌}
 use mathlib.Core.Bool.{not}
 use Rattle.rules.specs.Refusals.{refuses}
-use Rattle.rules.specs.RefusalLaws.{none_refuses}
-use Rattle.searches.specs.Accepting.{accept_code}
+use Rattle.rules.proofs.RefusalLaws.{none_refuses}
+use Rattle.searches.proofs.Accepting.{accept_code}
 use borrow.Author.Rules.{rules}
 use Rattle.searches.proofs.accept.Statement.{statement}
 use Rattle.searches.proofs.accept.Tie as tie

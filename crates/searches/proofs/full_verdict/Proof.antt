@@ -6,9 +6,9 @@ use Rattle.plain.specs.Plain.{plain_search}
 use Rattle.pn.specs.Results.{result_of}
 use Rattle.searches.specs.Searches.{settings, Full}
 use Rattle.searches.specs.Answers.{limits_of}
-use Rattle.searches.specs.Accepting.{of_pool, passed_all, passed_rule}
-use Rattle.searches.specs.SearchAnswers.{full_refused, full_with}
-use Rattle.searches.specs.Pools.{untouched_twice}
+use Rattle.searches.proofs.Accepting.{of_pool, passed_all, passed_rule}
+use Rattle.searches.proofs.SearchAnswers.{full_refused, full_with}
+use Rattle.searches.proofs.Pools.{untouched_twice}
 use borrow.Author.Rules.{rules}
 use Rattle.searches.proofs.full_verdict.Statement.{statement}
 use Rattle.searches.proofs.full_verdict.Tie as tie

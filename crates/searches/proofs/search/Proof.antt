@@ -2,8 +2,8 @@
 use mathlib.Core.Path.{refl, sym}
 use lib.ListN.{length}
 use Rattle.searches.specs.Answers.{limits_of}
-use Rattle.searches.specs.Accepting.{of_pool, passed_all}
-use Rattle.searches.specs.SearchAnswers.{search_refused, search_answered}
+use Rattle.searches.proofs.Accepting.{of_pool, passed_all}
+use Rattle.searches.proofs.SearchAnswers.{search_refused, search_answered}
 use borrow.Author.Rules.{rules}
 use Rattle.searches.proofs.search.Statement.{statement}
 use Rattle.searches.proofs.search.Tie as tie

@@ -1,7 +1,7 @@
 -- `searches::search_accepted` meets its contract: it is pn's search, of a position that passed every check. Assumes nothing.
 use Rattle.searches.specs.Answers.{limits_of}
-use Rattle.searches.specs.Accepting.{passed_accepted, to_search}
-use Rattle.searches.specs.Pools.{untouched}
+use Rattle.searches.proofs.Accepting.{passed_accepted, to_search}
+use Rattle.searches.proofs.Pools.{untouched}
 use borrow.Author.Rules.{rules}
 use Rattle.searches.proofs.search_accepted.Statement.{statement}
 use Rattle.searches.proofs.search_accepted.Tie as tie

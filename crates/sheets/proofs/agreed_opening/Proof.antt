@@ -2,9 +2,9 @@
 use mathlib.Core.Path.{refl, sym, subst}
 use lib.Seq.{length-take-le}
 use borrow.Author.Rules.{rules}
-use Rattle.sheets.specs.Beginnings.{common_within}
-use Rattle.sheets.specs.Openings.{agreed_opening}
-use Rattle.sheets.specs.Steps.{common_called}
+use Rattle.sheets.proofs.Beginnings.{common_within}
+use Rattle.sheets.proofs.Openings.{agreed_opening}
+use Rattle.sheets.proofs.Steps.{common_called}
 use Rattle.sheets.specs.AgreedOpening.{AgreedOpening}
 use Rattle.sheets.proofs.agreed_opening.Statement.{statement}
 use Rattle.sheets.proofs.agreed_opening.Tie as tie

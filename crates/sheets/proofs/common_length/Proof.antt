@@ -3,7 +3,7 @@ use Prim.Native.Nat.{◌-◌}
 use native.Mathlib.Omega.{arith}
 use lib.ListN.{length}
 use borrow.Author.Tests.{ltb-true, ltb-false}
-use Rattle.sheets.specs.Beginnings.{Alike, alike_start, alike_first, alike_second, alike_differ, alike_next}
+use Rattle.sheets.proofs.Beginnings.{Alike, alike_start, alike_first, alike_second, alike_differ, alike_next}
 use Rattle.sheets.proofs.common_length.Statement.{statement}
 use Rattle.sheets.proofs.common_length.Tie as tie
 

@@ -2,7 +2,7 @@
 use native.Mathlib.Omega.{arith}
 use borrow.Author.Rules.{rules}
 use Rattle.sheets.specs.Sheets.{empty_game}
-use Rattle.sheets.specs.Steps.{short_called, made_called, played_within}
+use Rattle.sheets.proofs.Steps.{short_called, made_called, played_within}
 use Rattle.sheets.proofs.play_legal.Statement.{statement}
 use Rattle.sheets.proofs.play_legal.Tie as tie
 

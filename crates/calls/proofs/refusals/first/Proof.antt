@@ -2,7 +2,7 @@
 use Prim.Native.Nat.{◌-◌}
 use lib.ListN.{length}
 use borrow.Author.Rules.{rules}
-use Rattle.calls.specs.Refusing.{Passing, passing_start, passing_found, passing_next, passing_end}
+use Rattle.calls.proofs.Refusing.{Passing, passing_start, passing_found, passing_next, passing_end}
 use Rattle.calls.proofs.refusals.first.Statement.{statement}
 use Rattle.calls.proofs.refusals.first.Tie as tie
 

@@ -7,7 +7,7 @@ use Rattle.searches.specs.Searches.{limits}
 use Rattle.entries.specs.Entries.{caller_of}
 use Rattle.book.specs.Book.{book_of, add_call}
 use Rattle.book.specs.Answers.{added}
-use Rattle.book.specs.ByCheck.{by_numbers, pool_after}
+use Rattle.book.proofs.ByCheck.{by_numbers, pool_after}
 use borrow.Author.Rules.{rules}
 use Rattle.ultimattt.proofs.book_exports.uttt_book_add.Statement.{statement}
 use Rattle.ultimattt.proofs.book_exports.uttt_book_add.Tie as tie

@@ -1,6 +1,6 @@
 -- `ultimattt::exports::uttt_agreed_opening` meets its contract: the part is counted. Assumes nothing.
 use borrow.Author.Rules.{rules}
-use Rattle.sheets.specs.Steps.{part_counted}
+use Rattle.sheets.proofs.Steps.{part_counted}
 use Rattle.ultimattt.proofs.exports.uttt_agreed_opening.Statement.{statement}
 use Rattle.ultimattt.proofs.exports.uttt_agreed_opening.Tie as tie
 

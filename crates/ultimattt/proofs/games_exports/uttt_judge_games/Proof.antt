@@ -4,7 +4,7 @@ use lib.ListN.{length}
 use Rattle.stay.specs.declared.Stay.{Stay}
 use Rattle.games_checks.specs.Checks.{common}
 use Rattle.games.specs.Games.{games_call}
-use Rattle.games.specs.Calling.{results_long}
+use Rattle.games.proofs.Calling.{results_long}
 use Rattle.ultimattt.specs.GamesExports.{outcome_numbers}
 use borrow.Author.Rules.{rules}
 use Rattle.ultimattt.proofs.games_exports.uttt_judge_games.Statement.{statement}

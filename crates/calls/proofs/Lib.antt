@@ -1,0 +1,4 @@
+pub mod Playing
+pub mod Refusing
+pub mod Turned
+pub mod Writing

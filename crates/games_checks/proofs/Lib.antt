@@ -1,0 +1,5 @@
+pub mod Cases
+pub mod Earliest
+pub mod Naming
+pub mod Passing
+pub mod Sums

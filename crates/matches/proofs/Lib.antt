@@ -1,0 +1,4 @@
+pub mod Looking
+pub mod MatchCases
+pub mod Playing
+pub mod Wins

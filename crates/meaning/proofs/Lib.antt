@@ -1,0 +1,9 @@
+pub mod Cases
+pub mod Lines
+pub mod RecordCases
+pub mod Sets
+pub mod Smallest
+pub mod States
+pub mod Unknowns
+pub mod Values
+pub mod Verdicts

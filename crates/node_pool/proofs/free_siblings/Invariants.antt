@@ -1,0 +1,17 @@
+-- `node_pool::free_siblings` meets its contract: at each turn the last of the nodes waiting is freed. Rests on words.
+use mathlib.Core.Path.{◌≡◌}
+use Prim.Native.Nat.{◌-◌}
+use lib.ListN.{length}
+use Rattle.rules.specs.Rules.{Position}
+use Rattle.words.specs.Freeing.{plies, Freeable, Freeing}
+use Rattle.node_pool.proofs.free_siblings.Given as goal
+
+abbrev pub invariant-loop-top : goal.invariant-loop-top
+invariant-loop-top l =
+    (length l.todo ≡ plies)
+    × ((g : Freeable Position l.initial.words l.start l.initial.p.head.0 l.initial.p.freed l.initial.p.allocated) → Freeing Position l.initial.words l.start l.initial.p.head.0 l.initial.p.freed l.initial.p.allocated g l.words l.todo l.p.head.0 l.p.freed l.top)
+    × (l.p.used ≡ l.initial.p.used)
+    × (l.p.allocated ≡ l.initial.p.allocated)
+
+abbrev pub decreases-loop-top : goal.decreases-loop-top
+decreases-loop-top l = l.p.allocated - l.p.freed

@@ -1,0 +1,15 @@
+pub mod Answers
+pub mod Bits
+pub mod Boards
+pub mod Cases
+pub mod Checks
+pub mod ChoiceLaws
+pub mod FreeChoices
+pub mod Legal
+pub mod LegalMoves
+pub mod Plays
+pub mod RefusalLaws
+pub mod Replays
+pub mod Roundtrip
+pub mod States
+pub mod Tests

@@ -1,0 +1,4 @@
+pub mod Beginnings
+pub mod Cases
+pub mod Openings
+pub mod Steps

@@ -1,0 +1,14 @@
+pub mod Current
+pub mod Free
+pub mod Freeing
+pub mod Leaves
+pub mod Making
+pub mod Packed
+pub mod Pool
+pub mod States
+pub mod Steps
+pub mod Store
+pub mod Trees
+pub mod Unique
+pub mod Walks
+pub mod Words
