@@ -22,7 +22,7 @@ member (x ∷ l) zero d h = Memᴰ.head refl
 member (x ∷ l) (suc i) d h = Memᴰ.tail (member l i d (omega arith))
 
 pub some : {m : ℕ} (l : List ℕ) → Memᴰ m l → 0 < length l
-some [] i = absurd (Memᴰ.not_nil i)
+some [] i = absurd (Memᴰ.not-nil i)
 some (x ∷ l) i = omega arith
 
 is_false : (v : Verdict) → is_false_verdict v ≡ true → v ≡ False

@@ -41,7 +41,7 @@ same_turned O O = refl
 
 -- one of some answers is b, or none is
 one_or_none : (f : ℕ → Bool) (b : Bool) (ms : List ℕ) → ((m : ℕ) × Memᴰ m ms × (f m ≡ b)) ⊎ ((m : ℕ) → Memᴰ m ms → f m ≡ not b)
-one_or_none f b [] = inr (λ m i. absurd (Memᴰ.not_nil i))
+one_or_none f b [] = inr (λ m i. absurd (Memᴰ.not-nil i))
 one_or_none f b (x ∷ ms) = go (one_or_none f b ms) (f x) b refl refl
   where
     go : ((m : ℕ) × Memᴰ m ms × (f m ≡ b)) ⊎ ((m : ℕ) → Memᴰ m ms → f m ≡ not b) → (v c : Bool) → f x ≡ v → b ≡ c

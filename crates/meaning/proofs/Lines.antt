@@ -40,7 +40,7 @@ module _ {Pos : Type 0} where
 
   pub starts_with : (ks : Children Pos) (l : Line) → Memᴰ l (lines_in ks) → StartsWith ks l
   unfolding lines_in
-  starts_with none l i = absurd (Memᴰ.not_nil i)
+  starts_with none l i = absurd (Memᴰ.not-nil i)
   starts_with (child n b ks) l i = go (Memᴰ.append_cases (map (λ r. n.move ∷ r) (lines_at n (lines_in b))) i) (λ j. starts_with ks l j)
     where
       go : Memᴰ l (map (λ r. n.move ∷ r) (lines_at n (lines_in b))) ⊎ Memᴰ l (lines_in ks) → (Memᴰ l (lines_in ks) → StartsWith ks l) → StartsWith (child n b ks) l
@@ -68,7 +68,7 @@ module _ {Pos : Type 0} where
 module _ (G : Game) where
   -- None stands twice
   pub distinct_at : (n : Node G.Pos) (b : Children G.Pos) → NodeOk G n b → (NoMoveTwice b → Distinct (lines_in b)) → Distinct (lines_at n (lines_in b))
-  distinct_at n b (open_leaf o) f = rw (lines_leaf n (lines_in b) (unsolved n (omega (arith, o.phi_is)) (omega (arith, o.delta_is))) o.closed) (Memᴰ.not_nil, tt)
+  distinct_at n b (open_leaf o) f = rw (lines_leaf n (lines_in b) (unsolved n (omega (arith, o.phi_is)) (omega (arith, o.delta_is))) o.closed) (Memᴰ.not-nil, tt)
   distinct_at n b (inner i) f = rw (lines_inner n (lines_in b) (unsolved n i.phi_pos i.delta_pos) i.opened) (f i.no_move_twice)
   distinct_at n b (won e p d v) f = rw (lines_solved n (lines_in b) (zero_solved n (inl p))) tt
   distinct_at n b (lost e d p v) f = rw (lines_solved n (lines_in b) (zero_solved n (inr d))) tt
@@ -98,16 +98,16 @@ module _ (G : Game) where
     where
       go : Memᴰ l ([] ∷ []) → solved n ≡ false → NamesLeaf G (child n b ks) n.pos l
       go (Memᴰ.head e) u = rw e (record { legal = tt; node = n; below = b; there = here; at_end = refl; not_solved = u; unexpanded = o.closed })
-      go (Memᴰ.tail j) u = absurd (Memᴰ.not_nil j)
+      go (Memᴰ.tail j) u = absurd (Memᴰ.not-nil j)
   names_at n b ks (inner j) f l i =
       let r = f j.by_moves l (subst (Memᴰ l) (lines_inner n (lines_in b) (unsolved n j.phi_pos j.delta_pos) j.opened) i) in
       record { legal = r.legal; node = r.node; below = r.below; there = beneath r.there; at_end = r.at_end; not_solved = r.not_solved; unexpanded = r.unexpanded }
-  names_at n b ks (won e p d v) f l i = absurd (Memᴰ.not_nil (subst (Memᴰ l) (lines_solved n (lines_in b) (zero_solved n (inl p))) i))
-  names_at n b ks (lost e d p v) f l i = absurd (Memᴰ.not_nil (subst (Memᴰ l) (lines_solved n (lines_in b) (zero_solved n (inr d))) i))
+  names_at n b ks (won e p d v) f l i = absurd (Memᴰ.not-nil (subst (Memᴰ l) (lines_solved n (lines_in b) (zero_solved n (inl p))) i))
+  names_at n b ks (lost e d p v) f l i = absurd (Memᴰ.not-nil (subst (Memᴰ l) (lines_solved n (lines_in b) (zero_solved n (inr d))) i))
 
   pub names_in : (p : G.Pos) (ks : Children G.Pos) → Good G ks → ByMoves G p ks → (l : Line) → Memᴰ l (lines_in ks) → NamesLeaf G ks p l
   unfolding lines_in position_after
-  names_in p none g m l i = absurd (Memᴰ.not_nil i)
+  names_in p none g m l i = absurd (Memᴰ.not-nil i)
   names_in p (child n b ks) g m l i =
       go (Memᴰ.append_cases (map (λ r. n.move ∷ r) (lines_at n (lines_in b))) i) (names_at n b ks g.0 (λ w. names_in n.pos b g.1 w)) (names_in p ks g.2 m.2 l)
     where

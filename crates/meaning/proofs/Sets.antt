@@ -57,6 +57,7 @@ in_list (k ∷ set) l e = go (same_bytes l k) refl e (λ q. in_list set l q)
 
 pub list_in : (set : List Line) (l : Line) → Memᴰ l set → is_in set l ≡ true
 unfolding is_in
+list_in [] l x' = elim x' [ ]
 list_in (k ∷ set) l (Memᴰ.head e) = rw (ap (same_bytes l) (sym e) ∙ same_self l)
 list_in (k ∷ set) l (Memᴰ.tail i) = ap (λ (b : Bool). same_bytes l k || b) (list_in set l i) ∙ or-true (same_bytes l k)
 

@@ -5,6 +5,7 @@ use Rattle.std.proofs.Common.{◌∙◌, eqb-true}
 use Prim.Native.Nat.{ℕ, zero, suc, ◌+◌, ◌-◌, ◌≤◌, ◌<◌}
 use native.Mathlib.Omega.{arith}
 use Rattle.rules.specs.Rules.{answers}
+use Rattle.passes.specs.Laws.{Bounded}
 use Rattle.passes.specs.Passes.{OneGame, total, first, spent, grant_with, unspent_after, unspent_at, grant_at, result_at, expanded_by}
 
 -- SUMS: one more at the end, no more of fewer, one of them, no more of no more, and the same of the same
