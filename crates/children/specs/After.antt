@@ -7,7 +7,7 @@ use Rattle.std.proofs.Math.Bool.{not}
 use mathlib.Core.List.{List}
 use Rattle.std.proofs.lemmas.Bool.{not-true}
 use Rattle.std.proofs.Math.Dec.{eqb}
-use Rattle.rules.specs.Rules.{Player, Position, other, mark, code, any, has_line, state, board, board_states, game_state, board_of, cell_of, move_of, move_error, play}
+use Rattle.rules.specs.Rules.{Player, Position, other, mark, code, any, has_line, board, board_states, game_state, board_of, cell_of, move_of, move_error, play}
 use Rattle.rules.specs.Rules.Player.{X, O}
 use Rattle.rules.proofs.Boards.{length_board, length_states, code_board, code_states}
 use Rattle.rules.proofs.Legal.{legal}

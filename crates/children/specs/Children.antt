@@ -4,7 +4,7 @@ use Rattle.std.specs.Prelude.{ℕ, ◌+◌, ◌*◌, ◌<◌, ◌≡◌, true, f
 use Rattle.std.proofs.Common.{ap, sym, ◌∙◌, arith, eqb-true}
 use Rattle.rules.specs.Rules.{Player, Position, code, board_states, game_state, board_of, cell_of, move_of, leads, move_error, play}
 use Rattle.rules.proofs.Boards.{code_states}
-use Rattle.rules.proofs.Legal.{legal, legal_error}
+use Rattle.rules.proofs.Legal.{legal_error}
 use Rattle.rules.proofs.LegalMoves.{legal_in}
 use Rattle.game.specs.Masks.{has_bit}
 use Rattle.game.specs.Cursor.{moves_from}

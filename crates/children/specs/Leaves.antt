@@ -36,7 +36,7 @@ unfolding position_verdict evaluated
 verdict_evaluated rule root q f = go (ℕ_discrete (game_state q) 0)
   where
     some : (ms : List ℕ) (m : ℕ) → Memᴰ m ms → Unknown ≡ evaluated (final_value rule root q) ms
-    some [] m i = absurd (Memᴰ.not_nil i)
+    some [] m i = absurd (Memᴰ.not-nil i)
     some (n ∷ ms) m i = refl
 
     go : Dec (game_state q ≡ 0) → cond (eqb (game_state q) 0) Unknown (cond (final_value rule root q) True False) ≡ evaluated (final_value rule root q) (legal_moves q)
