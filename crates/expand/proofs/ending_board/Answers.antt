@@ -1,0 +1,41 @@
+-- `expand::ending_board` meets its contract: a cell a turn, while the making has not ended. Assumes nothing.
+use mathlib.Core.Path.{sym, ◌∙◌}
+use mathlib.Core.Logic.{inl, inr, ⊎_elim}
+use Prim.Native.Nat.{◌-◌, ◌≤◌}
+use native.Mathlib.Omega.{arith}
+use borrow.Author.Tests.{not-true, not-false}
+use Rattle.expand.specs.Boards.{cell_child, ending_start, ending_passed, ending_asks, ending_step, ending_done}
+use Rattle.expand.proofs.ending_board.Goals as goal
+
+pub loop-c-init : goal.loop-c-init
+loop-c-init c = (omega arith, λ g. ending_start _ _ _ _ _ _ _ g)
+
+pub has-requires : goal.has-requires
+has-requires c = omega (arith, c.loop-c-test.true)
+
+pub child_value-value-requires : goal.child_value-value-requires
+child_value-value-requires c =
+    (c.requires.0, (_, cell_child _ _ _ _ _ _ _ c.requires.1.of_leaf c.requires.1.board c.loop-c-test.true (sym c.has.ensures ∙ not-true _ c.if-not-has.true-raw)))
+
+pub from_coords-requires : goal.from_coords-requires
+from_coords-requires c =
+    (c.requires.1.board.in_range, c.loop-c-test.true)
+
+pub add_child-m-requires : goal.add_child-m-requires
+add_child-m-requires c =
+    ending_asks _ _ _ _ _ _ _ c.requires.1 _ _ _ (c.loop-c.invariant.1 c.requires.1) _ _ c.loop-c-test.true (sym c.has.ensures ∙ not-true _ c.if-not-has.true-raw) (not-true _ c.if-not-m.true)
+    c.from_coords.ensures c.child_value-value.ensures
+
+pub overflow_add-c : goal.overflow_add-c
+overflow_add-c c = omega (arith, c.loop-c-test.true)
+
+pub loop-c-smaller : goal.loop-c-smaller
+loop-c-smaller c = omega (arith, c.loop-c-test.true)
+
+pub returns-else-not-m : goal.returns-else-not-m
+returns-else-not-m c g =
+    ending_done _ _ _ _ _ _ _ g _ _ _ (c.loop-c.invariant.1 g) c.loop-c.invariant.0 (inr (not-false _ c.if-not-m.false))
+
+pub returns-after-loop-c : goal.returns-after-loop-c
+returns-after-loop-c c g =
+    ending_done _ _ _ _ _ _ _ g _ _ _ (c.loop-c.invariant.1 g) c.loop-c.invariant.0 (inl c.loop-c-test.false)

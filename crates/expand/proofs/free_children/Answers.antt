@@ -1,0 +1,32 @@
+-- `expand::free_children` meets its contract: a board a turn, while the making has not ended. Assumes nothing.
+use mathlib.Core.Path.{sym, ◌∙◌}
+use mathlib.Core.Logic.{inl, inr, ⊎_elim}
+use Prim.Native.Nat.{◌*◌, ◌-◌, ◌≤◌}
+use native.Mathlib.Omega.{arith}
+use borrow.Author.Tests.{not-true, not-false}
+use Rattle.expand.specs.Targets.{board_passed, free_done, free_asks, board_step}
+use Rattle.expand.proofs.free_children.Goals as goal
+
+pub loop-b-init : goal.loop-b-init
+loop-b-init c = (omega arith, λ g. g.progress)
+
+pub has-requires : goal.has-requires
+has-requires c = omega (arith, c.loop-b-test.true)
+
+pub board_children-m-requires : goal.board_children-m-requires
+board_children-m-requires c =
+    (c.requires.0, free_asks _ _ _ _ _ c.requires.1 c.requires.2 _ _ _ (c.loop-b.invariant.1 c.requires.1) c.loop-b-test.true (sym c.has.ensures ∙ not-true _ c.if-not-has.true-raw) (not-true _ c.if-not-m.true))
+
+pub overflow_add-b : goal.overflow_add-b
+overflow_add-b c = omega (arith, c.loop-b-test.true)
+
+pub loop-b-smaller : goal.loop-b-smaller
+loop-b-smaller c = omega (arith, c.loop-b-test.true)
+
+pub returns-else-not-m : goal.returns-else-not-m
+returns-else-not-m c g =
+    free_done _ _ _ _ _ g c.requires.2 _ _ _ (c.loop-b.invariant.1 g) c.loop-b.invariant.0 (inr (not-false _ c.if-not-m.false))
+
+pub returns-after-loop-b : goal.returns-after-loop-b
+returns-after-loop-b c g =
+    free_done _ _ _ _ _ g c.requires.2 _ _ _ (c.loop-b.invariant.1 g) c.loop-b.invariant.0 (inl c.loop-b-test.false)
