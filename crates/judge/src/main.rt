@@ -1,16 +1,16 @@
 // Reads a record and a rule byte from standard input and writes what a search of it gives, in one line. What is written for what was read is the contract of
-// printed::judge_line; no contract can say what a call of C reads or writes.
+// printed::judge_line; no contract can say what standard input gives or standard output takes. A read or a write that fails ends the program with that error.
 
 #![tactic(auto)]
 
-use libc::{STDIN_FILENO, STDOUT_FILENO};
+use std::io;
 
 // An input that fills the buffer has more than 22 bytes, however many follow.
-fn main() {
+fn main(rt: HostRuntime) -> io::Result<()> {
     let mut buffer = [0u8; 23];
-    let n = io::read_full(STDIN_FILENO, &mut buffer);
+    let n = intake::read_full(&mut rt.stdin(), &mut buffer)?;
     let line = printed::judge_line(&buffer[..n]);
     let bytes = line.bytes;
     let length = line.length;
-    io::write_all(STDOUT_FILENO, &bytes[..length]);
+    rt.write_all(&bytes[..length])
 }

@@ -8,33 +8,33 @@
 
 mod pairs;
 
-use libc::{STDIN_FILENO, STDOUT_FILENO};
+use std::io;
 
-fn write_line(input: &[u8]) {
+fn write_line(rt: &impl Print, input: &[u8]) -> io::Result<()> {
     let line = printed::judge_line(input);
     let bytes = line.bytes;
     let length = line.length;
-    io::write_all(STDOUT_FILENO, &bytes[..length]);
+    rt.write_all(&bytes[..length])
 }
 
 // Runs them all. Standard input may end within the last one: then that one is not run.
-fn run(text: &[u8]) {
+fn run(rt: &impl Print, text: &[u8]) -> io::Result<()> {
     let mut at: usize = 0;
     while at < text.len() {
         let start = at + 1;
         let end = start + text[at] as usize;
         if text.len() < end {
-            io::write_all(STDOUT_FILENO, b"the last input is cut short\n");
-            return;
+            return println!(rt; "the last input is cut short");
         }
-        write_line(&text[start..end]);
+        write_line(rt, &text[start..end])?;
         at = end;
     }
+    Ok(())
 }
 
-fn main() {
-    let mut buffer = io::buffer();
-    let n = io::read_full(STDIN_FILENO, &mut buffer);
-    run(&buffer[..n]);
-    pairs::run();
+fn main(rt: HostRuntime) -> io::Result<()> {
+    let mut buffer = [0u8; 4096];
+    let n = intake::read_full(&mut rt.stdin(), &mut buffer)?;
+    run(&rt, &buffer[..n])?;
+    pairs::run(&rt)
 }

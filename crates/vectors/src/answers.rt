@@ -161,7 +161,7 @@ fn compare(
     if n != number {
         return Outcome::Differs;
     }
-    if check::same(want, out) {
+    if want == out {
         Outcome::Agreed
     } else {
         Outcome::Differs

@@ -85,7 +85,7 @@ fn set_book(
 fn same_bytes(a: &Bytes, b: &Bytes) -> bool
     ensures { (result ≡ true → a.now ≡ b.now) × (a.now ≡ b.now → result ≡ true) }
 {
-    check::same(a, b)
+    a == b
 }
 
 // `book dump => COUNT BYTES`

@@ -69,7 +69,7 @@ pub fn is_word(s: &[u8], w: Word, asked: &[u8]) -> bool
 {
     let start = w.start;
     let end = w.end;
-    check::same(&s[start..end], asked)
+    &s[start..end] == asked
 }
 
 // The value of a hexadecimal digit; 16 for any other byte.

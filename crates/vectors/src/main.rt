@@ -14,12 +14,12 @@ mod publishing;
 mod searches;
 mod simulation;
 
-ghost use Rattle.std.specs.Prelude.{◌≤◌, ◌≡◌, length};
+ghost use Rattle.std.specs.Prelude.{◌≤◌, ◌≡◌, length, IfOk};
 
 use answers::Outcome;
 use books::Bytes;
-use libc::{STDIN_FILENO, STDOUT_FILENO};
 use line::Count;
+use std::io;
 
 // Runs a line. It starts with `book`, or with the call's name and a record, or a sheet.
 fn run_line(s: &[u8], bytes: &mut Bytes, length: &mut usize, count: &mut u64) -> Outcome {
@@ -35,24 +35,19 @@ fn run_line(s: &[u8], bytes: &mut Bytes, length: &mut usize, count: &mut u64) ->
 }
 
 // Names a line that did not agree; gives 1 for one that did.
-fn report(number: u64, outcome: Outcome) -> u64
-    ensures { result ≤ 1 }
+fn report(rt: &impl Print, number: u64, outcome: Outcome) -> io::Result<u64>
+    ensures { IfOk result (λ n. n ≤ 1) }
 {
-    if let Outcome::Agreed = outcome {
-        return 1;
+    match outcome {
+        Outcome::Agreed => return Ok(1),
+        Outcome::Differs => println!(rt; "line {number} differs")?,
+        Outcome::Unreadable => println!(rt; "line {number} can't be read")?,
     }
-    io::write_all(STDOUT_FILENO, b"line ");
-    io::print_decimal(STDOUT_FILENO, number);
-    if let Outcome::Differs = outcome {
-        io::write_all(STDOUT_FILENO, b" differs\n");
-    } else {
-        io::write_all(STDOUT_FILENO, b" can't be read\n");
-    }
-    0
+    Ok(0)
 }
 
 // Runs every line of the list. The book that is kept between them is at first one without bytes.
-fn run_list(text: &[u8]) {
+fn run_list(rt: &impl Print, text: &[u8]) -> io::Result<()> {
     let mut bytes = books::zeros();
     let mut length: usize = 0;
     let mut count: u64 = 0;
@@ -62,16 +57,11 @@ fn run_list(text: &[u8]) {
     while at < text.len() {
         let end = line::find(text, at, b'\n');
         lines += 1;
-        agreed += report(
-            lines,
-            run_line(&text[at..end], &mut bytes, &mut length, &mut count),
-        );
+        let outcome = run_line(&text[at..end], &mut bytes, &mut length, &mut count);
+        agreed += report(rt, lines, outcome)?;
         at = end + 1;
     }
-    io::print_decimal(STDOUT_FILENO, lines);
-    io::write_all(STDOUT_FILENO, b" lines, ");
-    io::print_decimal(STDOUT_FILENO, agreed);
-    io::write_all(STDOUT_FILENO, b" agreed\n");
+    println!(rt; "{lines} lines, {agreed} agreed")
 }
 
 // What the list is read into.
@@ -82,12 +72,11 @@ fn fresh_buffer() -> [u8; 655360]
 }
 
 // A list that fills the buffer may go on after it: none of it is run.
-fn main() {
+fn main(rt: HostRuntime) -> io::Result<()> {
     let mut buffer = fresh_buffer();
-    let n = io::read_full(STDIN_FILENO, &mut buffer);
+    let n = intake::read_full(&mut rt.stdin(), &mut buffer)?;
     if n == buffer.len() {
-        io::write_all(STDOUT_FILENO, b"the list has more than 655359 bytes\n");
-        return;
+        return println!(rt; "the list has more than 655359 bytes");
     }
-    run_list(&buffer[..n]);
+    run_list(&rt, &buffer[..n])
 }

@@ -21,7 +21,7 @@ fn holds(book: &[u8], place: usize, record: &[u8], rule: u64) -> bool
     requires { (21 ≤ place) × (place < length book.now) }
 {
     let start = place - 21;
-    if check::same(&book[start..place], record) {
+    if &book[start..place] == record {
         has_verdict(book[place], rule)
     } else {
         false
