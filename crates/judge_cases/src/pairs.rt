@@ -105,8 +105,20 @@ fn run_ending(rt: &impl Print) -> io::Result<()> {
         given(3276, NO_LIMIT, 4, INTERVAL),
         given(3276, NO_LIMIT, 100000, INTERVAL),
     )?;
-    run_pair(rt, a, 0, given(3276, 0, 100000, 7), given(3276, 4, 100000, 2))?;
-    run_pair(rt, a, 0, given(3276, 6, 100000, 2), given(3276, 4, 100000, 2))
+    run_pair(
+        rt,
+        a,
+        0,
+        given(3276, 0, 100000, 7),
+        given(3276, 4, 100000, 2),
+    )?;
+    run_pair(
+        rt,
+        a,
+        0,
+        given(3276, 6, 100000, 2),
+        given(3276, 4, 100000, 2),
+    )
 }
 
 // W, a win in one move; D, a drawn position; E, the empty board, with no pool in the first search.

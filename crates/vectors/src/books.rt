@@ -3,10 +3,10 @@
 ghost use Rattle.std.specs.Prelude.{◌≡◌, true, length};
 ghost use Rattle.vectors.specs.Words.{Inside};
 
+use crate::searches::Reading;
 use crate::{answers, fields, line, publishing, searches};
 use answers::{Outcome, Stored};
 use line::{Count, Number, Word};
-use searches::Reading;
 use ultimattt::book_exports::AddAnswer;
 
 // The most entries of a book that is lent. A line with a longer book can't be read.

@@ -1,12 +1,12 @@
 // The call on up to eight games: it reads the rest of its line, from the place after the records on, and runs the call.
 ghost use Rattle.std.specs.Prelude.{◌<◌, ◌≡◌, true};
 
+use crate::searches::Reading;
 use crate::{answers, fields, line, margin, searches};
 use answers::{Outcome, Stored};
 use fields::Place;
 use line::Number;
 use margin::Margin;
-use searches::Reading;
 use ultimattt::exports::ResultFields;
 use ultimattt::games_exports::GamesAnswer;
 

@@ -1,11 +1,11 @@
 // The call of simulated players: it reads the rest of its line, from the place after the record on, and runs the call.
 ghost use Rattle.std.specs.Prelude.{◌≡◌, true};
 
+use crate::searches::MOST_NODES;
 use crate::{answers, fields, line, margin, searches};
 use answers::{Outcome, Stored};
 use fields::Place;
 use margin::Margin;
-use searches::MOST_NODES;
 use ultimattt::players_exports::SimulateAnswer;
 
 // The numbers of a line in its order, and the place after them.
