@@ -1,21 +1,11 @@
--- What it is for a line to agree, and when it does.
-use Rattle.std.specs.Prelude.{ℕ, ◌≡◌, refl, List}
+-- What it is for a line to agree.
+use Rattle.std.specs.Prelude.{ℕ, ◌≡◌, List}
 use Rattle.vectors.specs.declared.answers.Stored.{Stored}
-use Rattle.vectors.specs.declared.answers.Stored.TheVariants.{Answer, Unreadable as NoAnswer}
+use Rattle.vectors.specs.declared.answers.Stored.TheVariants.{Answer}
 use Rattle.vectors.specs.declared.answers.Outcome.{Outcome}
-use Rattle.vectors.specs.declared.answers.Outcome.TheVariants.{Agreed, Differs, Unreadable}
+use Rattle.vectors.specs.declared.answers.Outcome.TheVariants.{Agreed}
 
 -- A line agreed exactly if the stored answer is the one given, and the two outputs are the same.
 pub record Compared (stored : Stored) (code index number : ℕ) (want out : List ℕ) (r : Outcome) : Type 0 where
   pub agreed : r ≡ Agreed → (stored ≡ Answer code index number) × (want ≡ out)
   pub alike : stored ≡ Answer code index number → want ≡ out → r ≡ Agreed
-
-module _ (stored : Stored) (code index number : ℕ) (want out : List ℕ) where
-  pub same : {c i n : ℕ} → stored ≡ Answer c i n → c ≡ code → i ≡ index → n ≡ number → want ≡ out → Compared stored code index number want out Agreed
-  same e p i q h = record { agreed = λ a. (cc, h); alike = λ a b. refl }
-
-  pub other : {c i n : ℕ} → stored ≡ Answer c i n → (c ≡ code → i ≡ index → n ≡ number → want ≡ out → ⊥) → Compared stored code index number want out Differs
-  other e d = record { agreed = λ a. (cc, cc); alike = λ a h. absurd (d (cc) (cc) (cc) h) }
-
-  pub unread : stored ≡ NoAnswer → Compared stored code index number want out Unreadable
-  unread e = record { agreed = λ i. (cc, cc); alike = λ i h. cc }

@@ -1,5 +1,4 @@
 pub mod Words
-pub mod Counted
 pub mod Compared
 pub mod Pools
 pub mod Lent

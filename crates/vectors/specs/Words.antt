@@ -1,6 +1,5 @@
 -- What the contracts of `vectors::line` and of those who read by it cite. Rests on the library alone.
 use Rattle.std.specs.Prelude.{ℕ, ◌+◌, ◌-◌, ◌<◌, ◌≤◌, ◌≡◌, List, cond, length, take, drop, get_or, ltb}
-use Rattle.io.specs.Counts.{IsPrefixLen}
 use Rattle.vectors.specs.declared.line.Word.{Word}
 use Rattle.vectors.specs.declared.line.Count.{Count}
 use Rattle.vectors.specs.declared.line.Count.TheVariants.{Bytes, Unreadable}
@@ -20,6 +19,10 @@ pub record Inside (w : Word) (line : List ℕ) : Type 0 where
 -- Its bytes.
 abbrev pub word_of : Word → List ℕ → List ℕ
 word_of w line = take (w.end - w.start) (drop w.start line)
+
+-- n elements stand at the front of xs. The second part follows from the first, and spares a caller who lends them a proof.
+abbrev pub IsPrefixLen : ℕ → List ℕ → Type 0
+IsPrefixLen n xs = (n ≤ length xs) × (n ≡ length (take n xs))
 
 -- So many bytes as were counted stand at the front of xs.
 abbrev pub Counted : Count → List ℕ → Type 0

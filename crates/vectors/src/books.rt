@@ -3,8 +3,8 @@
 ghost use Rattle.std.specs.Prelude.{◌≡◌, true, length};
 ghost use Rattle.vectors.specs.Words.{Inside};
 
-use crate::searches::Reading;
-use crate::{answers, fields, line, publishing, searches};
+use crate::search_lines::Reading;
+use crate::{answers, fields, line, publishing, search_lines};
 use answers::{Outcome, Stored};
 use line::{Count, Number, Word};
 use ultimattt::book_exports::AddAnswer;
@@ -103,8 +103,8 @@ fn dump(s: &[u8], at: usize, bytes: &Bytes, length: usize, count: u64) -> Outcom
     };
     let stored = answers::ended(s, place, 0, 0, used);
     let outcome = answers::settle_numbers(stored, 0, 0, count);
-    let sized = searches::if_also(outcome, n == length);
-    searches::if_also(sized, same_bytes(&want, bytes))
+    let sized = search_lines::if_also(outcome, n == length);
+    search_lines::if_also(sized, same_bytes(&want, bytes))
 }
 
 // `book lookup WHO RECORD RULE => VALUE`, from the arrow on.
@@ -166,7 +166,7 @@ fn settle_add(s: &[u8], at: usize, count: u64, got: AddAnswer) -> Outcome {
     let mut want = count;
     let stored = read_added(s, at, &mut want);
     let outcome = answers::settle_numbers(stored, got.code as u64, got.index, got.verdict as u64);
-    searches::if_also(outcome, got.count == want)
+    search_lines::if_also(outcome, got.count == want)
 }
 
 // The first word of a pool that an add may not write. A True or False with the count as it was is of a pair that was held, not searched for: then it is the first of all.
@@ -176,7 +176,7 @@ fn closed_after_add(got: AddAnswer, count: u64, words: usize) -> usize {
             return 0;
         }
     }
-    searches::closed_from(got.code, words)
+    search_lines::closed_from(got.code, words)
 }
 
 // `book add WHO RECORD RULE POOL-NODES LIMIT BUDGET INTERVAL [MARGIN] => VERDICT COUNT`, from the pool on.
@@ -190,7 +190,7 @@ fn add(
     rule: u64,
     want: &mut Bytes,
 ) -> Outcome {
-    let Reading::Read(x) = searches::read_settings(s, at) else {
+    let Reading::Read(x) = search_lines::read_settings(s, at) else {
         return Outcome::Unreadable;
     };
     let words = x.words;
@@ -212,7 +212,7 @@ fn add(
     *count = got.count;
     put_entry(want, before, record, rule, got);
     let outcome = settle_add(s, x.place, before, got);
-    searches::if_also(
+    search_lines::if_also(
         outcome,
         fields::untouched(&pool, closed_after_add(got, before, words)),
     )
@@ -298,5 +298,5 @@ pub fn run(s: &[u8], at: usize, bytes: &mut Bytes, length: &mut usize, count: &m
     }
     let mut want = *bytes;
     let outcome = call(s, verb, bytes, *length, count, &mut want);
-    searches::if_also(outcome, same_bytes(bytes, &want))
+    search_lines::if_also(outcome, same_bytes(bytes, &want))
 }

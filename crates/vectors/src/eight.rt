@@ -1,8 +1,8 @@
 // The call on up to eight games: it reads the rest of its line, from the place after the records on, and runs the call.
 ghost use Rattle.std.specs.Prelude.{◌<◌, ◌≡◌, true};
 
-use crate::searches::Reading;
-use crate::{answers, fields, line, margin, searches};
+use crate::search_lines::Reading;
+use crate::{answers, fields, line, margin, search_lines};
 use answers::{Outcome, Stored};
 use fields::Place;
 use line::Number;
@@ -113,7 +113,7 @@ fn settle_games(s: &[u8], at: usize, got: GamesAnswer) -> Outcome {
     let results = got.results;
     let given = all_numbers(results);
     let outcome = answers::settle_numbers(stored, got.code as u64, got.index, got.count);
-    searches::if_also(outcome, same(&want, &given))
+    search_lines::if_also(outcome, same(&want, &given))
 }
 
 // The first word of a pool that a call on so many games may not write: the first past their parts, of as many whole nodes each. A refusal's count is 0, and the word the first of all.
@@ -130,7 +130,7 @@ pub fn judge(s: &[u8], at: usize, records: &[u8]) -> Outcome {
     let Number::Value(rule, next) = line::read_number(s, at) else {
         return Outcome::Unreadable;
     };
-    let Reading::Read(x) = searches::read_limits(s, next) else {
+    let Reading::Read(x) = search_lines::read_limits(s, next) else {
         return Outcome::Unreadable;
     };
     let mut shares = [0u64; 8];
@@ -151,7 +151,7 @@ pub fn judge(s: &[u8], at: usize, records: &[u8]) -> Outcome {
         m.margin,
     );
     let outcome = settle_games(s, m.place, got);
-    searches::if_also(
+    search_lines::if_also(
         outcome,
         fields::untouched(&pool, closed_after(got.count, words)),
     )

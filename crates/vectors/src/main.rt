@@ -5,13 +5,13 @@
 
 mod answers;
 mod books;
-mod calls;
+mod call_lines;
 mod eight;
 mod fields;
 mod line;
 mod margin;
 mod publishing;
-mod searches;
+mod search_lines;
 mod simulation;
 
 ghost use Rattle.std.specs.Prelude.{◌≤◌, ◌≡◌, length, IfOk};
@@ -31,7 +31,7 @@ fn run_line(s: &[u8], bytes: &mut Bytes, length: &mut usize, count: &mut u64) ->
     let Count::Bytes(n, place) = line::read_bytes(s, name.end, &mut record) else {
         return Outcome::Unreadable;
     };
-    calls::run(s, name, place, &record[..n])
+    call_lines::run(s, name, place, &record[..n])
 }
 
 // Names a line that did not agree; gives 1 for one that did.

@@ -1,8 +1,8 @@
 // The call of simulated players: it reads the rest of its line, from the place after the record on, and runs the call.
 ghost use Rattle.std.specs.Prelude.{◌≡◌, true};
 
-use crate::searches::MOST_NODES;
-use crate::{answers, fields, line, margin, searches};
+use crate::search_lines::MOST_NODES;
+use crate::{answers, fields, line, margin, search_lines};
 use answers::{Outcome, Stored};
 use fields::Place;
 use margin::Margin;
@@ -70,7 +70,7 @@ fn settle_report(s: &[u8], at: usize, got: SimulateAnswer) -> Outcome {
     let stored = read_report(s, at, &mut want);
     let given = [got.x_wins, got.o_wins, got.draws, got.expanded];
     let outcome = answers::settle_numbers(stored, got.code as u64, got.index, 0);
-    searches::if_also(outcome, same(&want, &given))
+    search_lines::if_also(outcome, same(&want, &given))
 }
 
 // Whether a record's game has a move left: else it is over, or the record is refused.
@@ -83,7 +83,7 @@ fn has_moves(record: &[u8]) -> bool {
 // The first word of a pool that the call may not write. Of a game that is over nothing is searched: then it is the first of all.
 fn closed_after(record: &[u8], code: u32, words: usize) -> usize {
     if has_moves(record) {
-        searches::closed_from(code, words)
+        search_lines::closed_from(code, words)
     } else {
         0
     }
@@ -100,7 +100,7 @@ pub fn simulate(s: &[u8], at: usize, record: &[u8]) -> Outcome {
     if MOST_NODES < x.nodes {
         return Outcome::Unreadable;
     }
-    let words = searches::lent_words(x.nodes);
+    let words = search_lines::lent_words(x.nodes);
     let mut pool = fields::fresh_pool();
     let got = ultimattt::players_exports::uttt_simulate(
         record,
@@ -115,7 +115,7 @@ pub fn simulate(s: &[u8], at: usize, record: &[u8]) -> Outcome {
         m.margin,
     );
     let outcome = settle_report(s, m.place, got);
-    searches::if_also(
+    search_lines::if_also(
         outcome,
         fields::untouched(&pool, closed_after(record, got.code, words)),
     )

@@ -1,6 +1,6 @@
 -- `vectors::run_line` is safe: the record's bytes were counted in their array. Assumes nothing.
 use borrow.Author.Rules.{rules}
-use Rattle.vectors.specs.Counted.{counted}
+use Rattle.vectors.proofs.Counted.{counted}
 use Rattle.vectors.proofs.run_line.Statement.{statement}
 use Rattle.vectors.proofs.run_line.Tie as tie
 

@@ -3,7 +3,7 @@ use Prim.Native.Nat.{ℕ}
 use mathlib.Core.Path.{◌≡◌}
 use native.Mathlib.Omega.{arith}
 use borrow.Author.Rules.{rules}
-use Rattle.vectors.specs.Compared.{same, other, unread}
+use Rattle.vectors.proofs.Compared.{same, other, unread}
 use Rattle.vectors.proofs.answers.compare.Statement.{statement}
 use Rattle.vectors.proofs.answers.compare.Tie as tie
 

@@ -1,6 +1,6 @@
 -- `vectors::books::add` is safe: the pool is at least as long as the part that is lent. Assumes nothing.
 use borrow.Author.Rules.{rules}
-use Rattle.vectors.specs.Lent.{lent}
+use Rattle.vectors.proofs.Lent.{lent}
 use Rattle.vectors.proofs.books.add.Statement.{statement}
 use Rattle.vectors.proofs.books.add.Tie as tie
 

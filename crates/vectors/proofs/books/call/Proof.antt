@@ -2,7 +2,7 @@
 use borrow.Author.Rules.{rules}
 use lib.ListN.{length-take}
 use native.Mathlib.Omega.{arith}
-use Rattle.vectors.specs.Counted.{counted}
+use Rattle.vectors.proofs.Counted.{counted}
 use Rattle.vectors.proofs.books.call.Statement.{statement}
 use Rattle.vectors.proofs.books.call.Tie as tie
 

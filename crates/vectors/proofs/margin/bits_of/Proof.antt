@@ -7,7 +7,8 @@ use lib.Seq.{take_all}
 use borrow.Author.Count.{below_more}
 use borrow.Author.Rules.{rules}
 use Rattle.vectors.specs.Words.{hex_value}
-use Rattle.vectors.specs.Margins.{spelled, one_more, room, more}
+use Rattle.vectors.proofs.Margins.{one_more, room, more}
+use Rattle.vectors.specs.Margins.{spelled}
 use Rattle.vectors.proofs.margin.bits_of.Statement.{statement}
 use Rattle.vectors.proofs.margin.bits_of.Tie as tie
 

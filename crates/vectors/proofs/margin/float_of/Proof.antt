@@ -2,7 +2,7 @@
 use mathlib.Core.Path.{◌≡◌, refl, sym, ◌∙◌}
 use borrow.Author.Rules.{rules}
 use lib.Ieee.{binary64, nan, div, of_bits, of_fields, odd}
-use Rattle.vectors.specs.Margins.{pattern_nan, pattern_number}
+use Rattle.vectors.proofs.Margins.{pattern_nan, pattern_number}
 use Rattle.vectors.proofs.margin.float_of.Statement.{statement}
 use Rattle.vectors.proofs.margin.float_of.Tie as tie
 

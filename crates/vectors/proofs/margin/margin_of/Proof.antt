@@ -1,7 +1,7 @@
 -- `vectors::margin::margin_of` meets its contract: the float has the bits that the digits spell. Assumes nothing.
 use mathlib.Core.Path.{refl}
 use borrow.Author.Rules.{rules}
-use Rattle.vectors.specs.Margins.{bits_read, bits_unread}
+use Rattle.vectors.proofs.Margins.{bits_read, bits_unread}
 use Rattle.vectors.proofs.margin.margin_of.Statement.{statement}
 use Rattle.vectors.proofs.margin.margin_of.Tie as tie
 

@@ -1,6 +1,6 @@
 -- `vectors::simulation::simulate` is safe: the pool is at least as long as the part that is lent. Assumes nothing.
 use borrow.Author.Rules.{rules}
-use Rattle.vectors.specs.Lent.{lent_words}
+use Rattle.vectors.proofs.Lent.{lent_words}
 use Rattle.vectors.proofs.simulation.simulate.Statement.{statement}
 use Rattle.vectors.proofs.simulation.simulate.Tie as tie
 

@@ -1,8 +1,8 @@
--- `vectors::calls::sheets` is safe: the moves were counted in their array. Assumes nothing.
+-- `vectors::call_lines::sheets` is safe: the moves were counted in their array. Assumes nothing.
 use borrow.Author.Rules.{rules}
-use Rattle.vectors.specs.Counted.{counted}
-use Rattle.vectors.proofs.calls.sheets.Statement.{statement}
-use Rattle.vectors.proofs.calls.sheets.Tie as tie
+use Rattle.vectors.proofs.Counted.{counted}
+use Rattle.vectors.proofs.call_lines.sheets.Statement.{statement}
+use Rattle.vectors.proofs.call_lines.sheets.Tie as tie
 
 slice-aggregate-read-bytes : tie.Need-slice-aggregate-read-bytes
 slice-aggregate-read-bytes c = search rules

@@ -1,8 +1,8 @@
--- `vectors::searches::full` is safe: the pool is at least as long as the part that is lent. Assumes nothing.
+-- `vectors::search_lines::full` is safe: the pool is at least as long as the part that is lent. Assumes nothing.
 use borrow.Author.Rules.{rules}
-use Rattle.vectors.specs.Lent.{lent}
-use Rattle.vectors.proofs.searches.full.Statement.{statement}
-use Rattle.vectors.proofs.searches.full.Tie as tie
+use Rattle.vectors.proofs.Lent.{lent}
+use Rattle.vectors.proofs.search_lines.full.Statement.{statement}
+use Rattle.vectors.proofs.search_lines.full.Tie as tie
 
 read-settings-requires : tie.Need-read-settings-requires
 read-settings-requires c κs = search rules

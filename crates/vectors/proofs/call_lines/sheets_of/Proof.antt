@@ -1,8 +1,8 @@
--- `vectors::calls::replay_of` is safe: the output is at least as long as the length that was read. Assumes nothing.
+-- `vectors::call_lines::sheets_of` is safe: the output is at least as long as the length that was read. Assumes nothing.
 use borrow.Author.Rules.{rules}
-use Rattle.vectors.specs.Counted.{counted}
-use Rattle.vectors.proofs.calls.replay_of.Statement.{statement}
-use Rattle.vectors.proofs.calls.replay_of.Tie as tie
+use Rattle.vectors.proofs.Counted.{counted}
+use Rattle.vectors.proofs.call_lines.sheets_of.Statement.{statement}
+use Rattle.vectors.proofs.call_lines.sheets_of.Tie as tie
 
 untouched-requires : tie.Need-untouched-requires
 untouched-requires c κs = search rules
@@ -25,14 +25,11 @@ returns c = search rules
 array-borrow-prefix-out : tie.Need-array-borrow-prefix-out
 array-borrow-prefix-out c = (counted _ c.before.length.given.1 c.before.before.before.output-length.ensures).0
 
-slice-aggregate-uttt-replay : tie.Need-slice-aggregate-uttt-replay
-slice-aggregate-uttt-replay c = (counted _ c.before.before.length.given.1 c.before.before.before.before.output-length.ensures).1
+slice-aggregate-uttt-agreed-opening : tie.Need-slice-aggregate-uttt-agreed-opening
+slice-aggregate-uttt-agreed-opening c = (counted _ c.before.before.length.given.1 c.before.before.before.before.output-length.ensures).1
 
-uttt-replay-requires : tie.Need-uttt-replay-requires
-uttt-replay-requires c κs = search rules
-
-cast-settle : tie.Need-overflow-cast-settle
-cast-settle c = search rules
+uttt-agreed-opening-requires : tie.Need-uttt-agreed-opening-requires
+uttt-agreed-opening-requires c κs = search rules
 
 settle-requires : tie.Need-settle-requires
 settle-requires c κs = search rules
@@ -40,8 +37,8 @@ settle-requires c κs = search rules
 returns-2 : tie.Need-returns-2
 returns-2 c = search rules
 
-pub replay-of-spec : {M : Type 1} → statement M
-replay-of-spec =
+pub sheets-of-spec : {M : Type 1} → statement M
+sheets-of-spec =
     tie.close
     (tie.spec
     untouched-requires
@@ -51,8 +48,7 @@ replay-of-spec =
     enum_told
     returns
     array-borrow-prefix-out
-    slice-aggregate-uttt-replay
-    uttt-replay-requires
-    cast-settle
+    slice-aggregate-uttt-agreed-opening
+    uttt-agreed-opening-requires
     settle-requires
     returns-2)

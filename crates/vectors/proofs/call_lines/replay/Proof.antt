@@ -1,8 +1,8 @@
--- `vectors::calls::replay` is safe: the moves were counted in their array. Assumes nothing.
+-- `vectors::call_lines::replay` is safe: the moves were counted in their array. Assumes nothing.
 use borrow.Author.Rules.{rules}
-use Rattle.vectors.specs.Counted.{counted}
-use Rattle.vectors.proofs.calls.replay.Statement.{statement}
-use Rattle.vectors.proofs.calls.replay.Tie as tie
+use Rattle.vectors.proofs.Counted.{counted}
+use Rattle.vectors.proofs.call_lines.replay.Statement.{statement}
+use Rattle.vectors.proofs.call_lines.replay.Tie as tie
 
 slice-aggregate-read-bytes : tie.Need-slice-aggregate-read-bytes
 slice-aggregate-read-bytes c = search rules

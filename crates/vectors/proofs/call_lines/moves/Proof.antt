@@ -1,8 +1,8 @@
--- `vectors::calls::moves` is safe: the output is at least as long as the length that was read. Assumes nothing.
+-- `vectors::call_lines::moves` is safe: the output is at least as long as the length that was read. Assumes nothing.
 use borrow.Author.Rules.{rules}
-use Rattle.vectors.specs.Counted.{counted}
-use Rattle.vectors.proofs.calls.moves.Statement.{statement}
-use Rattle.vectors.proofs.calls.moves.Tie as tie
+use Rattle.vectors.proofs.Counted.{counted}
+use Rattle.vectors.proofs.call_lines.moves.Statement.{statement}
+use Rattle.vectors.proofs.call_lines.moves.Tie as tie
 
 untouched-requires : tie.Need-untouched-requires
 untouched-requires c κs = search rules

@@ -1,7 +1,7 @@
-// The calls, a function for each, those that lend a pool in `searches`, `eight` and `simulation`: it reads the rest of its line, from the place after the record or first sheet on, and runs the call.
+// The calls, a function for each, those that lend a pool in `search_lines`, `eight` and `simulation`: it reads the rest of its line, from the place after the record or first sheet on, and runs the call.
 ghost use Rattle.vectors.specs.Words.{Inside};
 
-use crate::{answers, eight, line, searches, simulation};
+use crate::{answers, eight, line, search_lines, simulation};
 use answers::{Form, Outcome};
 use line::{Count, Number, Word};
 
@@ -94,10 +94,10 @@ pub fn run(s: &[u8], name: Word, at: usize, record: &[u8]) -> Outcome
         return replay(s, at, record);
     }
     if line::is_word(s, name, b"search") {
-        return searches::search(s, at, record);
+        return search_lines::search(s, at, record);
     }
     if line::is_word(s, name, b"full") {
-        return searches::full(s, at, record);
+        return search_lines::full(s, at, record);
     }
     if line::is_word(s, name, b"eight") {
         return eight::judge(s, at, record);

@@ -1,10 +1,10 @@
--- `vectors::searches::if_also` meets its contract, case by case. Assumes nothing.
+-- `vectors::search_lines::if_also` meets its contract, case by case. Assumes nothing.
 use Prim.Native.Nat.{ℕ}
 use mathlib.Core.Path.{◌≡◌}
 use native.Mathlib.Omega.{arith}
 use borrow.Author.Rules.{rules}
-use Rattle.vectors.proofs.searches.if_also.Statement.{statement}
-use Rattle.vectors.proofs.searches.if_also.Tie as tie
+use Rattle.vectors.proofs.search_lines.if_also.Statement.{statement}
+use Rattle.vectors.proofs.search_lines.if_also.Tie as tie
 
 enum_told : tie.Need-enum-told
 enum_told c = search rules

@@ -1,7 +1,6 @@
 -- A law of `Counted`, for those who took the count apart. Assumes nothing.
 use Rattle.std.specs.Prelude.{ℕ, ◌≡◌, List}
-use Rattle.io.specs.Counts.{IsPrefixLen}
-use Rattle.vectors.specs.Words.{Counted}
+use Rattle.vectors.specs.Words.{Counted, IsPrefixLen}
 use Rattle.vectors.specs.declared.line.Count.{Count}
 use Rattle.vectors.specs.declared.line.Count.TheVariants.{Bytes}
 

@@ -1,8 +1,8 @@
--- `vectors::searches::search` is safe: the pool is at least as long as the part that is lent. Assumes nothing.
+-- `vectors::search_lines::search` is safe: the pool is at least as long as the part that is lent. Assumes nothing.
 use borrow.Author.Rules.{rules}
-use Rattle.vectors.specs.Lent.{lent}
-use Rattle.vectors.proofs.searches.search.Statement.{statement}
-use Rattle.vectors.proofs.searches.search.Tie as tie
+use Rattle.vectors.proofs.Lent.{lent}
+use Rattle.vectors.proofs.search_lines.search.Statement.{statement}
+use Rattle.vectors.proofs.search_lines.search.Tie as tie
 
 read-number-requires : tie.Need-read-number-requires
 read-number-requires c κs = search rules

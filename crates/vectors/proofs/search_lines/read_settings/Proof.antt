@@ -1,8 +1,8 @@
--- `vectors::searches::read_settings` meets its contract: the words to lend are those of the limits. Assumes nothing.
+-- `vectors::search_lines::read_settings` meets its contract: the words to lend are those of the limits. Assumes nothing.
 use borrow.Author.Rules.{rules}
-use Rattle.vectors.specs.Lent.{lendable}
-use Rattle.vectors.proofs.searches.read_settings.Statement.{statement}
-use Rattle.vectors.proofs.searches.read_settings.Tie as tie
+use Rattle.vectors.proofs.Lent.{lendable}
+use Rattle.vectors.proofs.search_lines.read_settings.Statement.{statement}
+use Rattle.vectors.proofs.search_lines.read_settings.Tie as tie
 
 read-limits-requires : tie.Need-read-limits-requires
 read-limits-requires c κs = search rules

@@ -1,0 +1,4 @@
+pub mod Counted
+pub mod Compared
+pub mod Lent
+pub mod Margins
