@@ -1,4 +1,1 @@
-pub mod Counted
-pub mod Compared
-pub mod Lent
 pub mod Margins

@@ -1,6 +1,5 @@
 -- What it is for the settings of a line to name a pool that can be lent.
 use Rattle.std.specs.Prelude.{◌≤◌}
-use Rattle.vectors.specs.declared.search_lines.Settings.{Settings}
 use Rattle.vectors.specs.declared.search_lines.Reading.{Reading}
 use Rattle.vectors.specs.declared.search_lines.Reading.TheVariants.{Read, Unreadable}
 
