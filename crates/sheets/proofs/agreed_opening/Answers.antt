@@ -16,4 +16,4 @@ slice_bounds-result-end c = sym (length-take-le _ _ c.play_legal-made.ensures.wi
 pub returns : goal.returns
 returns c =
     let e = common_called _ _ _ _ _ c.common_length-n.ensures c.play_legal-made.ensures.out_after in
-    (e, (refl, subst (AgreedOpening _ _ _) (sym e) (agreed_opening _ _ _)))
+    record { out_after = e; place = refl; opening = subst (AgreedOpening _ _ _) (sym e) (agreed_opening _ _ _) }

@@ -1,5 +1,4 @@
 -- `sheets::common_length` meets its contract: after i moves alike the rest of both lists decides; the measure is the number of moves left of the first. Assumes nothing.
-use Prim.Native.Nat.{◌-◌}
 use native.Mathlib.Omega.{arith}
 use borrow.Author.Tests.{ltb-true, ltb-false}
 use Rattle.sheets.proofs.Beginnings.{alike_start, alike_first, alike_second, alike_differ, alike_next}
