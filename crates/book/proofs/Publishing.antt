@@ -25,7 +25,7 @@ use Rattle.book.specs.Book.{Book, book_of, BookOutcome, used, broken, refused, u
 use Rattle.book.specs.Book.{publish_refusal, publish_call}
 use Rattle.book.specs.Lists.{Publish}
 use Rattle.book.specs.TrainerStatement.{leaving, TrainerStatement, OneBit, PublishStatement, SharedBookStatement}
-use Rattle.book.proofs.Passing.{Fits, fits_unbroken, LookupPassed, lookup_passed, looked_up, publish_passed, used_stored, fits_stored, fits_marked}
+use Rattle.book.proofs.Passing.{Fits, fits_unbroken, lookup_passed, looked_up, publish_passed, used_stored, fits_stored, fits_marked}
 use Rattle.book.proofs.Kept.{book_statement}
 use Rattle.book.proofs.Changes.{AddSearches, add_ways, publish_ways, used_marked, as_it_was}
 

@@ -1,5 +1,5 @@
 -- Laws of specs/Playing.antt. Moves made one after the other by the code, against the rules' replay: what the loop has made so far, and its end. Rests on the rules, game's Words and Moves.
-use Rattle.std.specs.Prelude.{◌≡◌, List, ℕ, suc, ◌+◌, ◌<◌, ◌≤◌, length, get_or, take, drop}
+use Rattle.std.specs.Prelude.{◌≡◌, List, ℕ, suc, ◌+◌, ◌<◌, ◌≤◌, length, get_or, drop}
 use Rattle.std.proofs.Common.{ap, sym, subst, ◌∙◌, add-one, arith, drop-cons, take_all}
 use Rattle.rules.specs.Rules.{Position, move_error, play, replay}
 use Rattle.rules.specs.Rules.Replayed.{Reached, BadMove}
@@ -11,7 +11,6 @@ use Rattle.game.specs.declared.MoveResult.TheVariants.{Ok, Err}
 use Rattle.game.specs.declared.MoveError.{MoveError}
 use Rattle.game.specs.Words.{Holds, Held}
 use Rattle.game.specs.Moves.{Tried}
-use Rattle.calls.specs.declared.Line.{Line}
 use Rattle.calls.specs.Playing.{Place, EndsBy, PlayedBy}
 
 module _ (p : Position) (ms : List ℕ) (n : ℕ) (ws : List ℕ) (r : MoveResult) (played : PlayedBy p ms n ws r) where

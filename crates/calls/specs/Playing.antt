@@ -1,16 +1,11 @@
 -- Moves made one after the other by the code, against the rules' replay: what the loop has made so far, and its end. Rests on the rules, game's Words and Moves.
-use Rattle.std.specs.Prelude.{◌≡◌, List, ℕ, suc, ◌+◌, ◌<◌, ◌≤◌, length, get_or, take, drop}
-use Rattle.std.proofs.Common.{ap, sym, subst, ◌∙◌, add-one, arith, drop-cons, take_all}
-use Rattle.rules.specs.Rules.{Position, move_error, play, replay}
-use Rattle.rules.specs.Rules.Replayed.{Reached, BadMove}
-use Rattle.rules.proofs.Replays.{bad_move, no_move, replay_rest, replay_next}
-use Rattle.game.specs.Numbers.{error_number, result_number}
-use Rattle.game.specs.Errors.{error_number_some, err_number}
+use Rattle.std.specs.Prelude.{◌≡◌, List, ℕ, ◌<◌, length, get_or, take}
+use Rattle.rules.specs.Rules.{Position, move_error, replay}
+use Rattle.rules.specs.Rules.Replayed.{Reached}
+use Rattle.game.specs.Numbers.{error_number}
 use Rattle.game.specs.declared.MoveResult.{MoveResult}
 use Rattle.game.specs.declared.MoveResult.TheVariants.{Ok, Err}
-use Rattle.game.specs.declared.MoveError.{MoveError}
-use Rattle.game.specs.Words.{Holds, Held}
-use Rattle.game.specs.Moves.{Tried}
+use Rattle.game.specs.Words.{Holds}
 use Rattle.calls.specs.declared.Line.{Line}
 
 -- the first n of the moves ms from p are made, and the words hold the position after them

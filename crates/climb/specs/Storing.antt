@@ -1,5 +1,5 @@
 -- A node stored anew, and one node up, in what holds a state of the search. Rests on words and prover's Stands.
-use Rattle.std.specs.Prelude.{◌≡◌, List, [], Bool, not, cond, ◌||◌, ℕ, ◌+◌, ◌≤◌, ◌<◌, min, get_or}
+use Rattle.std.specs.Prelude.{◌≡◌, List, Bool, not, cond, ◌||◌, ℕ, ◌+◌, ◌≤◌, ◌<◌, min, get_or}
 use Rattle.std.proofs.Math.Path.{refl, ap, sym}
 use Rattle.std.proofs.Common.{◌∙◌, arith, ne_eqb}
 use Rattle.std.proofs.Math.Bool.{true, false}
@@ -7,14 +7,15 @@ use Rattle.std.proofs.Math.Dec.{eqb}
 use Rattle.rules.specs.Rules.{Position}
 use Rattle.machine.specs.Game.{Game}
 use Rattle.machine.specs.Tree.{Node, u32_max, none, size, least_delta, sum_phi, solved, proof_of, disproof_of}
-use Rattle.machine.specs.Machine.{State, state, renumber, store}
+use Rattle.machine.specs.Machine.{State, renumber, store}
 use Rattle.machine.proofs.Numbers.{open_of}
 use Rattle.plain.specs.Plain.{game}
 use Rattle.words.specs.Packed.{View, view, bit, packed, and_in, Bytes}
 use Rattle.words.proofs.Packed.{packed_read}
 use Rattle.words.specs.Words.{NONE, PHI, DELTA, PACKED, FIRST, word, set_word, Beyond}
 use Rattle.words.proofs.Words.{beyond_trans, only_beyond}
-use Rattle.words.proofs.Words as words
+use Rattle.words.specs.Words as words
+use Rattle.words.proofs.Words as laws
 use Rattle.words.specs.Freeing.{Freeable}
 use Rattle.words.specs.Pool.{Holding}
 use Rattle.words.specs.Pool.{Holds}
@@ -25,7 +26,7 @@ use Rattle.node_pool.specs.declared.NodeID.{NodeID}
 use Rattle.node_pool.specs.declared.Pool.{Pool}
 use Rattle.node_pool.specs.Promises.{FreedAll}
 use Rattle.prover.specs.declared.Prover.{Prover}
-use Rattle.prover.specs.Stands.{Positions, Stands, positions_same}
+use Rattle.prover.specs.Stands.{Positions, positions_same}
 use Rattle.climb.specs.Asks.{zeros, Counted, Ascending, Stored}
 
 -- The flag and says that the other side is to move
@@ -118,7 +119,7 @@ module _ (w path : List ℕ) (x : Prover) (phi delta : ℕ) (g : Ascending w pat
   -- It is solved: its children are cut off
   module _ (first : NodeID) (first_is : first.0 ≡ word v₁ i FIRST) (end : ℕ) (end_is : end ≡ NONE) (v₂ : List ℕ) (cut : v₂ ≡ set_word v₁ i FIRST end) where
     cut_off : words.Stored v₁ v₂ i FIRST NONE
-    cut_off = rw end_is at (words.stored v₁ v₂ i FIRST end holding.node.slot (omega arith) cut)
+    cut_off = rw end_is at (laws.stored v₁ v₂ i FIRST end holding.node.slot (omega arith) cut)
 
     bare : Holding K v₂ path x.depth x.pool.head.0 x.pool.used s.above n none s.below first.0
     bare =

@@ -10,7 +10,6 @@ use Rattle.rules.specs.Record.{side_bit, player_of}
 use Rattle.game.specs.Masks.{mask, mask_of, nonzero, has_bit}
 use Rattle.game.specs.Words.{Holds}
 use Rattle.game.specs.Cursor.{moves_from}
-use Rattle.machine.specs.Tree.{leaf}
 use Rattle.machine.specs.Machine.{Verdict, Unknown}
 use Rattle.plain.specs.Plain.{game}
 use Rattle.words.specs.Packed.{view}

@@ -1,5 +1,5 @@
 pub mod Cases
-pub mod Earliest
+pub mod EarliestLaws
 pub mod Naming
 pub mod Passing
 pub mod Sums

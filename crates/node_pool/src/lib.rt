@@ -6,7 +6,7 @@ ghost use Rattle.std.specs.Prelude.{◌≡◌, not, ◌+◌, ◌-◌, ◌≤◌,
 ghost use Rattle.rules.specs.Rules.{Position};
 ghost use Rattle.prove.specs.Numbers.{number};
 ghost use Rattle.words.specs.Packed.{pack, bit, expanded_in, and_in, move_in, remembered_in, with_remembered};
-ghost use Rattle.words.specs.Words.{NONE, PHI, DELTA, PACKED, FIRST, SIBLING, word, set_word, capacity, Slot, Filled};
+ghost use Rattle.words.specs.Words.{NONE, PHI as phi_place, DELTA as delta_place, PACKED as packed_place, FIRST as first_place, SIBLING as sibling_place, word, set_word, capacity, Slot, Filled};
 ghost use Rattle.words.specs.Free.{Spare, Number};
 ghost use Rattle.words.specs.Freeing.{plies, Pushed, Freeable};
 ghost use Rattle.node_pool.specs.Promises.{Allocs, Frees, FreesAll};
@@ -91,14 +91,14 @@ fn put(words: &mut [u32], id: NodeID, field: usize, x: u32)
 
 pub fn phi(words: &[u32], id: NodeID) -> u32
     requires { Slot words.now id.0 }
-    ensures { result ≡ word words.now id.0 PHI }
+    ensures { result ≡ word words.now id.0 phi_place }
 {
     get(words, id, PHI)
 }
 
 pub fn delta(words: &[u32], id: NodeID) -> u32
     requires { Slot words.now id.0 }
-    ensures { result ≡ word words.now id.0 DELTA }
+    ensures { result ≡ word words.now id.0 delta_place }
 {
     get(words, id, DELTA)
 }
@@ -106,21 +106,21 @@ pub fn delta(words: &[u32], id: NodeID) -> u32
 // The packed word, and what it says.
 pub fn packed(words: &[u32], id: NodeID) -> u32
     requires { Slot words.now id.0 }
-    ensures { result ≡ word words.now id.0 PACKED }
+    ensures { result ≡ word words.now id.0 packed_place }
 {
     get(words, id, PACKED)
 }
 
 pub fn first_child(words: &[u32], id: NodeID) -> NodeID
     requires { Slot words.now id.0 }
-    ensures { result.0 ≡ word words.now id.0 FIRST }
+    ensures { result.0 ≡ word words.now id.0 first_place }
 {
     NodeID(get(words, id, FIRST))
 }
 
 pub fn sibling(words: &[u32], id: NodeID) -> NodeID
     requires { Slot words.now id.0 }
-    ensures { result.0 ≡ word words.now id.0 SIBLING }
+    ensures { result.0 ≡ word words.now id.0 sibling_place }
 {
     NodeID(get(words, id, SIBLING))
 }
@@ -167,7 +167,7 @@ pub fn remembered_in(packed: u32) -> Move
 // Sets the remembered move of a node whose packed word is `packed`.
 pub fn remember(words: &mut [u32], id: NodeID, packed: u32, mv: Move)
     requires { Slot words.old id.0 }
-    ensures { words.new ≡ set_word words.old id.0 PACKED (with_remembered packed mv.0) }
+    ensures { words.new ≡ set_word words.old id.0 packed_place (with_remembered packed mv.0) }
 {
     put(
         words,
@@ -179,7 +179,7 @@ pub fn remember(words: &mut [u32], id: NodeID, packed: u32, mv: Move)
 
 pub fn set_bounds(words: &mut [u32], id: NodeID, phi: u32, delta: u32)
     requires { Slot words.old id.0 }
-    ensures { words.new ≡ set_word (set_word words.old id.0 PHI phi) id.0 DELTA delta }
+    ensures { words.new ≡ set_word (set_word words.old id.0 phi_place phi) id.0 delta_place delta }
 {
     put(words, id, PHI, phi);
     put(words, id, DELTA, delta);
@@ -187,15 +187,15 @@ pub fn set_bounds(words: &mut [u32], id: NodeID, phi: u32, delta: u32)
 
 pub fn set_first_child(words: &mut [u32], id: NodeID, child: NodeID)
     requires { Slot words.old id.0 }
-    ensures { words.new ≡ set_word words.old id.0 FIRST child.0 }
+    ensures { words.new ≡ set_word words.old id.0 first_place child.0 }
 {
     put(words, id, FIRST, child.0);
 }
 
 // The flag expanded of a node that is not expanded.
 pub fn set_expanded(words: &mut [u32], id: NodeID)
-    requires { Slot words.old id.0 × (expanded_in (word words.old id.0 PACKED) ≡ 0) }
-    ensures { words.new ≡ set_word words.old id.0 PACKED (word words.old id.0 PACKED + 536870912) }
+    requires { Slot words.old id.0 × (expanded_in (word words.old id.0 packed_place) ≡ 0) }
+    ensures { words.new ≡ set_word words.old id.0 packed_place (word words.old id.0 packed_place + 536870912) }
 {
     let x = packed(words, id);
     put(words, id, PACKED, x + EXPANDED);

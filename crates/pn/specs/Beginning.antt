@@ -1,5 +1,5 @@
 -- The start of a search in a pool of any words. Rests on words' Making, prover's Stands and children's leaves.
-use Rattle.std.specs.Prelude.{◌≡◌, refl, false, not, List, [], ℕ, ◌<◌, ◌≤◌, length, get_or}
+use Rattle.std.specs.Prelude.{◌≡◌, refl, false, not, List, ℕ, ◌<◌, ◌≤◌, length, get_or}
 use Rattle.std.proofs.Common.{ap, ◌∙◌}
 use Rattle.std.proofs.Math.Path.{sym}
 use native.Mathlib.Omega.{arith}

@@ -1,7 +1,7 @@
 -- A search of a position between two rounds, as its code keeps it, and its result. Rests on prover's Stands, expand's counter_max, Courses, Ticks, Root and Results.
 use Rattle.std.specs.Prelude.{◌≡◌, refl, true, false, ◌||◌, List, ℕ, ◌+◌, ◌*◌, ◌≤◌, ◌<◌, eqb, length, get_or}
 use Rattle.std.proofs.Math.Path.{ap, sym}
-use Rattle.std.proofs.Common.{◌∙◌, true≢false, arith}
+use Rattle.std.proofs.Common.{◌∙◌, true≢false}
 use Rattle.std.proofs.Math.Bool.{cond}
 use Rattle.rules.specs.Rules.{Position, count}
 use Rattle.machine.specs.Tree.{solved, proof_of, disproof_of}

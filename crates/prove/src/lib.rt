@@ -3,7 +3,7 @@
 #![tactic(auto)]
 
 ghost use Rattle.std.specs.Prelude.{◌≡◌, ◌||◌, ◌+◌, min, eqb};
-ghost use Rattle.machine.specs.Tree.{u32_max, INFINITY};
+ghost use Rattle.machine.specs.Tree.{u32_max, INFINITY as infinity};
 ghost use Rattle.prove.specs.Numbers.{number, Pair};
 
 // From here upward a number stands for infinity.
@@ -42,7 +42,7 @@ pub struct Bounds {
 impl Bounds {
     // A leaf won by its mover.
     pub fn winning() -> Self
-        ensures { Pair result.phi result.delta 0 INFINITY }
+        ensures { Pair result.phi result.delta 0 infinity }
     {
         Bounds {
             phi: 0,
@@ -52,7 +52,7 @@ impl Bounds {
 
     // A leaf lost by its mover.
     pub fn losing() -> Self
-        ensures { Pair result.phi result.delta INFINITY 0 }
+        ensures { Pair result.phi result.delta infinity 0 }
     {
         Bounds {
             phi: INFINITY,

@@ -1,5 +1,5 @@
 -- The loop over the 81 places that counts the open cells. Rests on OpenCells, and on game's Words and Cursor.
-use Rattle.std.specs.Prelude.{◌≡◌, refl, Bool, true, false, cond, List, [], ◌∷◌, ℕ, suc, ◌+◌, ◌-◌, ◌*◌, ◌/◌, ◌%◌, ◌<◌, ◌≤◌, eqb, length}
+use Rattle.std.specs.Prelude.{◌≡◌, refl, Bool, true, false, cond, List, ◌∷◌, ℕ, suc, ◌+◌, ◌-◌, ◌*◌, ◌/◌, ◌%◌, ◌<◌, ◌≤◌, eqb, length}
 use Rattle.std.proofs.Common.{◌∙◌, zero-add, add-one, arith}
 use Rattle.rules.specs.Rules.{Position, code, answers, board_states, keep}
 use Rattle.game.specs.Masks.{bit}

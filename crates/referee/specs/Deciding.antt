@@ -61,7 +61,7 @@ module _ (rule root : ℕ) (mine : Bool) (ws : List ℕ) where
       where
         each : (m : ℕ) → Memᴰ m (moves_from t.position at) ⊎ (value (game rule (player_of root)) (play t.position m) ≡ not mine)
             → value (game rule (player_of root)) (play t.position m) ≡ not mine
-        each m (inl i) = absurd (Memᴰ.not_nil (subst (Memᴰ m) ((replied t.position t.holds).none e) i))
+        each m (inl i) = absurd (Memᴰ.not-nil (subst (Memᴰ m) ((replied t.position t.holds).none e) i))
         each m (inr q) = q
 
     -- a reply is found

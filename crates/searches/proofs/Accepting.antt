@@ -5,17 +5,11 @@ use Rattle.std.proofs.Common.{sym, ◌∙◌, arith, le-ltb}
 use Rattle.rules.specs.Record.{position_of, refusal, Accepted}
 use Rattle.rules.proofs.Checks.{loads, loads_accepted}
 use Rattle.rules.specs.Refusals.{refuses, first_refusal}
-use Rattle.rules.proofs.RefusalLaws.{none_refuses, passes_need}
 use Rattle.game.specs.Words.{Holds}
-use Rattle.machine.proofs.Reached.{PoolInRange}
-use Rattle.plain.specs.Plain.{plain_search}
 use Rattle.pn.specs.Searches.{Searchable}
-use Rattle.pn.specs.Results.{result_of}
-use Rattle.pn.specs.declared.SearchResult.{SearchResult}
-use Rattle.stay.specs.Margin.{stay_in_range, StayInRange}
+use Rattle.stay.specs.Margin.{stay_in_range}
 use Rattle.calls.specs.Calls.{last_rule}
-use Rattle.calls.proofs.Refusing.{passes_test}
-use Rattle.searches.specs.Searches.{Limits, pool_least, pool_most, interval_least, interval_most, budget_most, nodes, settings, search_refusal, Untouched}
+use Rattle.searches.specs.Searches.{Limits, pool_least, pool_most, interval_least, interval_most, budget_most, nodes, search_refusal}
 use Rattle.searches.specs.Accepting.{accepts, Passed}
 
 -- the checks, each with the number that the code has for it

@@ -1,7 +1,7 @@
 -- The referee and every search that answers agree, as the two calls answer. Rests on calls' Turned, on SearchAnswers and on the referee's law.
 use Rattle.std.specs.Prelude.{◌≡◌, refl, Bool, true, false, cond, List, ◌⊎◌, ℕ}
 use Rattle.std.proofs.Common.{ap, sym, ◌∙◌, inl, inr}
-use Rattle.machine.specs.Machine.{Result, Verdict, True, False, Unknown}
+use Rattle.machine.specs.Machine.{Result, True, False, Unknown}
 use Rattle.prove.specs.Numbers.{verdict_number}
 use Rattle.plain.specs.Plain.{record_value, plain_search}
 use Rattle.referee.specs.Agrees.{agrees}

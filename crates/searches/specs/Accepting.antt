@@ -1,21 +1,17 @@
 -- What the checks of a search tell: one that is not refused has a record that loads and numbers within their ranges, and that is what the search asks for.
 -- Rests on Searches, calls' Refusing and pn's Searchable.
-use Rattle.std.specs.Prelude.{◌≡◌, not, List, [], ◌∷◌, ℕ, ◌≤◌, ltb, length}
-use Rattle.std.proofs.Common.{sym, ◌∙◌, arith, le-ltb}
-use Rattle.rules.specs.Record.{position_of, refusal, Accepted}
-use Rattle.rules.proofs.Checks.{loads, loads_accepted}
-use Rattle.rules.specs.Refusals.{refuses, first_refusal}
+use Rattle.std.specs.Prelude.{◌≡◌, List, ℕ, ◌≤◌, length}
+use Rattle.rules.specs.Record.{position_of, refusal}
 use Rattle.rules.proofs.RefusalLaws.{none_refuses, passes_need}
 use Rattle.game.specs.Words.{Holds}
 use Rattle.machine.proofs.Reached.{PoolInRange}
 use Rattle.plain.specs.Plain.{plain_search}
-use Rattle.pn.specs.Searches.{Searchable}
 use Rattle.pn.specs.Results.{result_of}
 use Rattle.pn.specs.declared.SearchResult.{SearchResult}
-use Rattle.stay.specs.Margin.{stay_in_range, StayInRange}
+use Rattle.stay.specs.Margin.{StayInRange}
 use Rattle.calls.specs.Calls.{last_rule}
 use Rattle.calls.proofs.Refusing.{passes_test}
-use Rattle.searches.specs.Searches.{Limits, pool_least, pool_most, interval_least, interval_most, budget_most, nodes, settings, search_refusal, Untouched}
+use Rattle.searches.specs.Searches.{Limits, interval_least, interval_most, budget_most, nodes, settings, search_refusal, Untouched}
 
 pub record Accepts (bytes : List ℕ) (words rule : ℕ) (L : Limits) : Type 0 where
   pub loads : refusal bytes ≡ 0

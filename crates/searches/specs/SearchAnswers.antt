@@ -1,14 +1,12 @@
 -- The answers of search and full verdict, each from the check that decides. Rests on Searches.
-use Rattle.std.proofs.Math.Path.{◌≡◌, refl, sym}
-use Rattle.std.proofs.Common.{◌∙◌, arith}
+use Rattle.std.proofs.Math.Path.{◌≡◌, refl}
+use Rattle.std.proofs.Common.{arith}
 use Rattle.std.specs.Prelude.{List}
 use Prim.Native.Nat.{ℕ, zero, suc}
 use Rattle.machine.specs.Machine.{Result}
 use Rattle.plain.specs.Plain.{plain_search}
 use Rattle.calls.specs.Calls.{answer_unless}
-use Rattle.calls.proofs.Refusing.{refused_by}
-use Rattle.searches.specs.Searches.{Limits, nodes, settings, search_refusal, Refused, Answered, search_call, FullVerdict, full_of, Turned, Full, both_results, full_call}
-
+use Rattle.searches.specs.Searches.{Limits, nodes, settings, search_refusal, Refused, Answered, search_call}
 
 module _ (bytes : List ℕ) (words rule : ℕ) (L : Limits) where
   pub answered : (r : Result) → search_call bytes words rule L ≡ Answered r → (search_refusal bytes (nodes words) rule L ≡ 0) × (r ≡ plain_search rule (settings words L) bytes)

@@ -71,7 +71,7 @@ pub fn agreed_opening<'a>(
     number: &mut u32,
 ) -> &'a [u8]
     ensures out_after { sheets_outcome result.now number.new out.new ≡ sheets_call first.now second.now out.old }
-    ensures place { result.ref_ptr ≡ first.entry.ptr }
+    ensures place { result.ref_ptr ≡ first.entry.ref_ptr }
     ensures opening { AgreedOpening first.now second.now out.old (sheets_outcome result.now number.new out.new) }
 {
     let n = common_length(first, second);

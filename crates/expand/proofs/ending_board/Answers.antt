@@ -1,10 +1,10 @@
 -- `expand::ending_board` meets its contract: a cell a turn, while the making has not ended. Assumes nothing.
 use mathlib.Core.Path.{sym, ◌∙◌}
-use mathlib.Core.Logic.{inl, inr, ⊎_elim}
-use Prim.Native.Nat.{◌-◌, ◌≤◌}
+use mathlib.Core.Logic.{inl, inr}
 use native.Mathlib.Omega.{arith}
 use borrow.Author.Tests.{not-true, not-false}
 use Rattle.expand.specs.Boards.{cell_child, ending_start, ending_passed, ending_asks, ending_step, ending_done}
+use Rattle.expand.proofs.ending_board.Goals.{then-not-has, else-not-has}
 use Rattle.expand.proofs.ending_board.Goals as goal
 
 pub loop-c-init : goal.loop-c-init
@@ -39,3 +39,14 @@ returns-else-not-m c g =
 pub returns-after-loop-c : goal.returns-after-loop-c
 returns-after-loop-c c g =
     ending_done _ _ _ _ _ _ _ g _ _ _ (c.loop-c.invariant.1 g) c.loop-c.invariant.0 (inl c.loop-c-test.false)
+
+pub loop-c-preserved : goal.loop-c-preserved
+loop-c-preserved c = (
+  omega (arith, c.loop-c-test.true),
+  λ g. elim c.if-not-has.branch [
+    | then-not-has w ↦ rw (w.words-is, w.m-is)
+        (ending_step _ _ _ _ _ _ _ g _ _ _ (c.loop-c.invariant.1 g) _ _ c.loop-c-test.true (sym c.has.ensures ∙ w.if-not-has.true) (not-true _ c.if-not-m.true) w.from_coords.ensures
+        w.child_value-value.ensures _ _ w.add_child-m.ensures)
+    | else-not-has w ↦ rw (w.words-is, w.m-is) (ending_passed _ _ _ _ _ _ _ g _ _ _ (c.loop-c.invariant.1 g) c.loop-c-test.true (sym c.has.ensures ∙ w.if-not-has.false))
+  ],
+)

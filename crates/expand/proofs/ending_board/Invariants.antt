@@ -1,5 +1,4 @@
 -- `expand::ending_board` meets its contract: a cell a turn, while the making has not ended. Assumes nothing.
-use mathlib.Core.Path.{◌∙◌}
 use Prim.Native.Nat.{◌-◌, ◌≤◌}
 use Rattle.expand.specs.Boards.{AtCell, EndingBoard}
 use Rattle.expand.proofs.ending_board.Given as goal

@@ -11,7 +11,7 @@ use Rattle.expand.proofs.expand.Goals as goal
 -- After it all children are made
 all_made : (c : After-make_children-m)
     (g : Expandable c.args.words.now c.args.path.now c.args.positions.now c.args.x c.args.rule c.args.attacker)
-    → Progress (leaf_at _ _ _ _ _ _ g) c.make_children-m.new.1.0 c.make_children-m.result []
+    → Progress (leaf_at _ _ _ _ _ _ g) c.make_children-m.new.words c.make_children-m.result []
 unfolding unmade
 all_made c g =
     c.make_children-m.ensures

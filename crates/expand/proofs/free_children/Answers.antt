@@ -1,10 +1,10 @@
 -- `expand::free_children` meets its contract: a board a turn, while the making has not ended. Assumes nothing.
 use mathlib.Core.Path.{sym, ◌∙◌}
-use mathlib.Core.Logic.{inl, inr, ⊎_elim}
-use Prim.Native.Nat.{◌*◌, ◌-◌, ◌≤◌}
+use mathlib.Core.Logic.{inl, inr}
 use native.Mathlib.Omega.{arith}
 use borrow.Author.Tests.{not-true, not-false}
 use Rattle.expand.specs.Targets.{board_passed, free_done, free_asks, board_step}
+use Rattle.expand.proofs.free_children.Goals.{then-not-has, else-not-has}
 use Rattle.expand.proofs.free_children.Goals as goal
 
 pub loop-b-init : goal.loop-b-init
@@ -30,3 +30,17 @@ returns-else-not-m c g =
 pub returns-after-loop-b : goal.returns-after-loop-b
 returns-after-loop-b c g =
     free_done _ _ _ _ _ g c.requires.2 _ _ _ (c.loop-b.invariant.1 g) c.loop-b.invariant.0 (inl c.loop-b-test.false)
+
+pub loop-b-preserved : goal.loop-b-preserved
+unfolding free_asks
+loop-b-preserved c = (
+  omega (arith, c.loop-b-test.true),
+  λ g.
+      let l = c.loop-b.invariant.1 g in
+      elim c.if-not-has.branch [
+        | then-not-has w ↦ rw (w.words-is, w.m-is)
+            (board_step _ _ _ _ _ g c.requires.2 _ _ _ l _ _
+            (w.board_children-m.ensures (free_asks _ _ _ _ _ g c.requires.2 _ _ _ l c.loop-b-test.true (sym c.has.ensures ∙ w.if-not-has.true) (not-true _ c.if-not-m.true))))
+        | else-not-has w ↦ rw (w.words-is, w.m-is) (board_passed _ _ _ _ _ g c.requires.2 _ _ _ l c.loop-b-test.true (sym c.has.ensures ∙ w.if-not-has.false))
+      ],
+)

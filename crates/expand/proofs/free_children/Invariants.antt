@@ -1,5 +1,4 @@
 -- `expand::free_children` meets its contract: a board a turn, while the making has not ended. Assumes nothing.
-use mathlib.Core.Path.{◌∙◌}
 use Prim.Native.Nat.{◌*◌, ◌-◌, ◌≤◌}
 use Rattle.game.specs.Cursor.{moves_from}
 use Rattle.expand.specs.Progress.{Progress}

@@ -1,5 +1,4 @@
 -- `expand::open_board` meets its contract: a cell a turn. Assumes nothing.
-use mathlib.Core.Path.{◌∙◌}
 use Prim.Native.Nat.{◌-◌, ◌≤◌}
 use Rattle.expand.specs.Boards.{OpenBoard, Opening}
 use Rattle.expand.specs.Opened.{counting}

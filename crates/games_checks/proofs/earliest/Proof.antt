@@ -1,7 +1,7 @@
 -- `games_checks::earliest` meets its contract. Assumes nothing.
 use native.Mathlib.Omega.{arith}
 use borrow.Author.Rules.{rules}
-use Rattle.games_checks.proofs.Earliest.{Looked, looked_start, looked_next, looked_done}
+use Rattle.games_checks.proofs.EarliestLaws.{Looked, looked_start, looked_next, looked_done}
 use Rattle.games_checks.proofs.earliest.Statement.{statement}
 use Rattle.games_checks.proofs.earliest.Tie as tie
 

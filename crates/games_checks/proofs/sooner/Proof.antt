@@ -1,5 +1,5 @@
 -- `games_checks::sooner` meets its contract. Assumes nothing.
-use Rattle.games_checks.proofs.Earliest.{early_passed, early_first, early_kept, early_sooner}
+use Rattle.games_checks.proofs.EarliestLaws.{early_passed, early_first, early_kept, early_sooner}
 use Rattle.games_checks.proofs.sooner.Statement.{statement}
 use Rattle.games_checks.proofs.sooner.Tie as tie
 

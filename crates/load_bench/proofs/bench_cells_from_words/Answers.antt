@@ -1,0 +1,13 @@
+-- `load_bench::bench_cells_from_words` meets its contract: the law of the cells taken from the words. Assumes nothing.
+use native.Mathlib.Omega.{arith}
+use Rattle.cells.proofs.CellLaws.{words_read}
+use Rattle.load_bench.proofs.bench_cells_from_words.Goals as goal
+
+pub returns-then-bytes-lt-RECORD_LENGTH : goal.returns-then-bytes-lt-RECORD_LENGTH
+returns-then-bytes-lt-RECORD_LENGTH c = (λ h. absurd (omega (arith, c.if-bytes-lt-RECORD_LENGTH.true)), λ h. c.no_cells.ensures)
+
+pub returns : goal.returns
+returns c = (
+  λ h. words_read _ (λ k. (c.shared_slice_known-1.given k).fits) _ c.record_words.ensures _ c.from_words-read.ensures,
+  λ h. absurd (omega (arith, c.if-bytes-lt-RECORD_LENGTH.false)),
+)

@@ -1,0 +1,10 @@
+-- `pn::run` meets its contract: what is left of the search comes to its end. Assumes nothing.
+use Rattle.pn.specs.Stepping.{left}
+use Rattle.pn.specs.Searches.{Loop}
+use Rattle.pn.proofs.run.Given as goal
+
+abbrev pub invariant-loop-y : goal.invariant-loop-y
+invariant-loop-y l = Loop l.initial.words l.initial.line l.initial.positions l.initial.y l.s l.attacker l.words l.line l.positions l.todo l.y
+
+abbrev pub decreases-loop-y : goal.decreases-loop-y
+decreases-loop-y l = left l.y l.s

@@ -1,0 +1,36 @@
+-- `pn::step` meets its contract, by what ends a search before a round. Assumes nothing.
+use mathlib.Core.Path.{◌≡◌, refl, ◌∙◌}
+use Rattle.machine.specs.Tree.{solved}
+use Rattle.machine.specs.Machine.{root}
+use Rattle.pn.specs.Going.{going_root}
+use Rattle.pn.specs.Stepping.{Steppable, root_solved, stepped_solved, stepped_spent, to_round}
+use Rattle.pn.proofs.step.Goals.{After-solved}
+use Rattle.pn.proofs.step.Goals as goal
+
+-- The root is solved, or not, as was read
+root_is : (c : After-solved)
+    (g : Steppable c.args.words.now c.args.path.now c.args.positions.now c.args.x c.args.s c.args.attacker)
+    → solved (root g.going.at) ≡ c.solved.result
+root_is c g = root_solved g _ _ _ c.phi-phi.ensures c.delta-delta.ensures c.solved.ensures
+
+pub phi-phi-requires : goal.phi-phi-requires
+phi-phi-requires c = (going_root _ _ _ _ _ _ c.requires.table_value.1.going).slot
+
+pub delta-delta-requires : goal.delta-delta-requires
+delta-delta-requires c = (going_root _ _ _ _ _ _ c.requires.table_value.1.going).slot
+
+pub returns-then-solved : goal.returns-then-solved
+returns-then-solved c = record { room = c.requires.room; stepped = λ g. stepped_solved g (root_is (goal.at.returns-then-solved c).After-solved g ∙ c.if-solved.true) _ refl refl refl }
+
+pub returns-then-prover-s : goal.returns-then-prover-s
+returns-then-prover-s c =
+    record { room = c.requires.room; stepped = λ g. stepped_spent g c.if-prover-s.true (root_is (goal.at.returns-then-prover-s c).After-solved g ∙ c.if-solved.false) _ refl refl refl refl }
+
+pub round-requires : goal.round-requires
+round-requires c =
+    record { room = c.requires.room; table_value = (c.requires.table_value.0, to_round c.requires.table_value.1 (root_is (goal.at.round-requires c).After-solved c.requires.table_value.1 ∙ c.if-solved.false) c.if-prover-s.false) }
+
+pub returns : goal.returns
+unfolding to_round
+returns c =
+    record { room = c.round.ensures.room; stepped = λ g. c.round.ensures.stepped (to_round g (root_is (goal.at.returns c).After-solved g ∙ c.if-solved.false) c.if-prover-s.false) }

@@ -1,0 +1,9 @@
+-- `resume::go_on` meets its contract: it takes the search up again and runs it. Assumes nothing.
+use Rattle.resume.specs.Keeping.{to_resume, resumed}
+use Rattle.resume.proofs.go_on.Goals as goal
+
+pub run-running-requires : goal.run-running-requires
+run-running-requires c = (to_resume c.requires).0
+
+pub returns : goal.returns
+returns c g = resumed g _ _ _ _ c.run-running.ensures.0 c.run-running.ensures.1
