@@ -22,25 +22,27 @@ BUILD = $(BUILD_IN) --release
 
 .PHONY: test judge library uttt answers oracle-test fuzz compare bench bench-loads bench-lookups bench-games bench-stay bench-players bindings-test examples
 
-# Every crate proved from nothing, every must-fail edit refused, every program's output as stored. Nothing is printed after rt's last line.
+# Every crate proved and laid out, every must-fail edit refused and none of them bad, every program's output as stored. Nothing is printed after rt's last line.
 test:
-	@rt fmt --check
-	@rt ci
+	@.ci/run
 
 # The program judge, proved, built and run on record W under rule 0: target/bin/judge
 judge:
-	rt check judge
+	cd crates/judge && rt run < stdin > /dev/null
+	@mkdir -p target/bin
+	cp crates/judge/out/judge target/bin/judge
 	target/bin/judge < crates/judge/stdin
 
-# A proved static library, target/staticlib/libNAME.a, is made anew where a source of a crate that it stands on has changed.
-sources = crates.txt $(shell find $(patsubst %,crates/%,$(1) $(shell sed -n 's/^$(1)://p' crates.txt)) -name '*.rt' -o -name '*.antt')
+# A proved static library, target/staticlib/libNAME.a, is that of the crate NAME_c. It is made anew where a source of a crate that it stands on has changed.
 LIBRARY = target/staticlib/libultimattt.a
 LOAD_BENCH = target/staticlib/libload_bench.a
 
-$(LIBRARY): $(call sources,ultimattt)
-$(LOAD_BENCH): $(call sources,load_bench)
+$(LIBRARY): $(shell tools/sources ultimattt_c)
+$(LOAD_BENCH): $(shell tools/sources load_bench_c)
 $(LIBRARY) $(LOAD_BENCH): target/staticlib/lib%.a:
-	rt staticlib $*
+	cd crates/$*_c && rt lib
+	@mkdir -p target/staticlib
+	cp crates/$*_c/out/lib$*_c.a $@
 
 # The proved static library: target/staticlib/libultimattt.a
 library: $(LIBRARY)
