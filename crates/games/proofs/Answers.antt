@@ -2,9 +2,6 @@
 use Rattle.std.specs.Prelude.{◌≡◌, refl, List, [], ◌∷◌, map, ℕ, zero, suc, ◌+◌, ◌<◌, length, get_or}
 use Rattle.std.proofs.Common.{ap, ◌∙◌, arith}
 use Rattle.rules.specs.Rules.{answers}
-use Rattle.pn.specs.Results.{result_of}
-use Rattle.games.specs.Games.{GamesOutcome}
-use Rattle.games.specs.declared.JudgedGames.{JudgedGames}
 
 -- a list by its places
 pub mapped : {A B : Type 0} (f : A → B) (xs : List A) (g : ℕ → B) (i n : ℕ) → length xs ≡ n → ((k : ℕ) → k < n → (d : A) → f (get_or xs k d) ≡ g (i + k)) → map f xs ≡ answers g i n

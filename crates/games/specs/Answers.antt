@@ -1,7 +1,5 @@
 -- What the code's answer says, and what its lists come to. Rests on Games and on the nine fields as the machine has them.
-use Rattle.std.specs.Prelude.{◌≡◌, refl, List, [], ◌∷◌, map, ℕ, zero, suc, ◌+◌, ◌<◌, length, get_or}
-use Rattle.std.proofs.Common.{ap, ◌∙◌, arith}
-use Rattle.rules.specs.Rules.{answers}
+use Rattle.std.specs.Prelude.{map}
 use Rattle.pn.specs.Results.{result_of}
 use Rattle.games.specs.Games.{GamesOutcome}
 use Rattle.games.specs.declared.JudgedGames.{JudgedGames}

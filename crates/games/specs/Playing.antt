@@ -1,5 +1,5 @@
 -- What the two passes ask for and come to, game by game, as the code goes through them. Rests on passes' definitions, resume's Stopped, and Parts.
-use Rattle.std.specs.Prelude.{◌≡◌, List, ℕ, ◌+◌, ◌*◌, ◌-◌, ◌/◌, ◌≤◌, ◌<◌, length, get_or, drop}
+use Rattle.std.specs.Prelude.{◌≡◌, List, ℕ, ◌+◌, ◌*◌, ◌/◌, ◌≤◌, ◌<◌, length, get_or, drop}
 use Rattle.rules.specs.Rules.{Position}
 use Rattle.rules.specs.Record.{position_of}
 use Rattle.machine.specs.Place.{pool_max}

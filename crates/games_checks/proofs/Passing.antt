@@ -1,5 +1,5 @@
 -- The checks with the code's sum, and what they tell where they refuse nothing. Rests on Checks and Sums.
-use Rattle.std.specs.Prelude.{◌≡◌, refl, Bool, true, not, List, [], ◌∷◌, ℕ, zero, suc, ◌/◌, ◌%◌, ◌≤◌, ltb, length}
+use Rattle.std.specs.Prelude.{◌≡◌, refl, Bool, true, not, List, [], ◌∷◌, ℕ, ◌/◌, ◌%◌, ◌≤◌, ltb, length}
 use Rattle.std.proofs.Common.{sym, eqb-true}
 use Rattle.std.proofs.Math.Bool.{false}
 use Rattle.rules.specs.Rules.{any}

@@ -1,8 +1,8 @@
 -- Laws of specs/Sums.antt. The shares, as the code adds them up: from the last game down. Rests on Checks.
-use Rattle.std.specs.Prelude.{◌≡◌, refl, Bool, true, false, List, [], ◌∷◌, ℕ, suc, ◌+◌, ◌*◌, ◌-◌, ◌≤◌, ◌<◌, ltb, length, get_or}
+use Rattle.std.specs.Prelude.{◌≡◌, refl, Bool, true, false, List, [], ◌∷◌, ℕ, suc, ◌+◌, ◌*◌, ◌-◌, ◌≤◌, ◌<◌, get_or}
 use Rattle.std.proofs.Math.Path.{sym}
 use Rattle.std.proofs.Common.{◌∙◌, subst, true≢false, arith, lt-ltb, le-ltb}
-use Rattle.rules.specs.Rules.{answers, any}
+use Rattle.rules.specs.Rules.{answers}
 use Rattle.rules.proofs.Answers.{length_answers}
 use Rattle.passes.specs.Passes.{total}
 use Rattle.searches.specs.Searches.{budget_most}

@@ -1,10 +1,6 @@
 -- The earliest check of some records and the lowest game, as the code finds them: from the last game down. Rests on Checks.
-use Rattle.std.specs.Prelude.{◌≡◌, refl, List, [], ◌∷◌, ℕ, zero, suc, ◌+◌, ◌*◌, ◌-◌, ◌≤◌, ◌<◌, min, take, drop}
-use Rattle.std.proofs.Common.{ap, ◌∙◌, subst, arith, eq-eqb, ne_eqb}
-use Rattle.std.proofs.Math.Path.{sym}
-use Rattle.rules.specs.Rules.{answers}
-use Rattle.rules.specs.Record.{refusal}
-use Rattle.games_checks.specs.Checks.{refusal_at, earlier, earliest, lowest}
+use Rattle.std.specs.Prelude.{◌≡◌, List, ℕ, ◌+◌}
+use Rattle.games_checks.specs.Checks.{earliest, lowest}
 
 -- of the refusals from game i on, the earliest check and the lowest game, counted from 0
 pub record EarlyAt (i : ℕ) (ns : List ℕ) (code index : ℕ) : Type 0 where

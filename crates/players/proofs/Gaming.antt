@@ -34,4 +34,4 @@ gaming_start g c seed w r = record {
 
 module _ {g₀ : List ℕ} {c : Players} {seed : ℕ} {w₀ w g : List ℕ} {state expanded : ℕ} (l : Gaming g₀ c seed w₀ w g state expanded) where
   pub gaming_held : Held g 0
-  gaming_held = (here.pos, here.holds)
+  gaming_held = ((here l).pos, (here l).holds)

@@ -37,7 +37,7 @@ use Rattle.players.specs.Answers.{players_of, settings_for}
 use Rattle.players.specs.declared.Players.{Players}
 use Rattle.players.specs.declared.Look.{Look}
 use Rattle.players.specs.declared.Turn.{Turn}
-use Rattle.players.specs.Turning.{Listed, listed_legal, Looks, Lookable, Looked, Looking, m, TurnIs}
+use Rattle.players.specs.Turning.{Listed, listed_legal, Looks, Lookable, Looked, Looking, LookIs, TurnIs}
 
 pub looking_start : (g ms : List ℕ) (n : ℕ) (s : Settings) (w : List ℕ) → Lookable g ms n w s → Looking g ms n s w w 0 0
 looking_start g ms n s w f = record {
@@ -49,7 +49,7 @@ looking_start g ms n s w f = record {
 }
 
 module _ {g ms : List ℕ} {n : ℕ} {s : Settings} {w₀ w : List ℕ} {i expanded : ℕ} (l : Looking g ms n s w₀ w i expanded) (h : i < n) where
-  pub looking_movable : Movable g 0 m
+  pub looking_movable : Movable g 0 (slice_index ms i)
   looking_movable = let f = l.from.looks in (l.from.pos, f.holds, listed_legal _ ms n f.listed i h)
 
 pub looking_none : {g ms : List ℕ} {n : ℕ} {s : Settings} {w₀ w : List ℕ} {i expanded : ℕ} → Looking g ms n s w₀ w i expanded → n ≤ i

@@ -47,7 +47,7 @@ pub record Gaming (g₀ : List ℕ) (c : Players) (seed : ℕ) (w₀ w g : List 
 
 module _ {g₀ : List ℕ} {c : Players} {seed : ℕ} {w₀ w g : List ℕ} {state expanded : ℕ} (l : Gaming g₀ c seed w₀ w g state expanded) where
   -- the position reached from the one that the call was begun with
-  abbrev here : Reached (searcher (length w₀) (players_of c)) l.from.pos seed w₀ w g state expanded
+  abbrev pub here : Reached (searcher (length w₀) (players_of c)) l.from.pos seed w₀ w g state expanded
   here = l.each l.from.pos l.from.holds l.from.accepted
 
   module _ (b : Bool) (test : (p : Position) → Holds p g 0 → b ≡ (game_state p == 0)) where
