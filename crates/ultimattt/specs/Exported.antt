@@ -2,7 +2,7 @@
 -- of uttt_referee's value. Rests on TwoAnswers, and on the laws of the calls in searches.
 use Rattle.std.specs.Prelude.{◌≡◌, refl, List, ℕ}
 use Rattle.std.proofs.Common.{ap, sym, ◌∙◌}
-use Rattle.machine.specs.Machine.{Result, Unknown}
+use Rattle.machine.specs.Machine.{Result}
 use Rattle.prove.specs.Numbers.{verdict_number}
 use Rattle.calls.specs.Calls.{RefereeOutcome, referee_call}
 use Rattle.searches.specs.Searches.{Limits, Searched, Answered, Refused, search_call}
