@@ -1,4 +1,4 @@
-// Records read in both ways, for the bench that times them. No crate of the product stands on this one.
+// Records read in both ways, for the bench that times them. The crate load_bench_c exports them; no crate of the product stands on this one.
 
 #![tactic(auto)]
 
@@ -32,8 +32,7 @@ fn no_cells() -> BenchCells
 }
 
 // The cells, from the record's three words.
-#[unsafe(no_mangle)]
-pub extern "C" fn bench_cells_from_words(bytes: &[u8]) -> BenchCells
+pub fn bench_cells_from_words(bytes: &[u8]) -> BenchCells
     ensures { (21 ≤ length bytes.now → BoardsRead (position_of bytes.now).cells 9 result.words result.rest)
         × (length bytes.now < 21 → (result.words ≡ replicate 23 0) × (result.rest ≡ 0)) }
 {
@@ -49,8 +48,7 @@ pub extern "C" fn bench_cells_from_words(bytes: &[u8]) -> BenchCells
 }
 
 // The same cells, bit by bit.
-#[unsafe(no_mangle)]
-pub extern "C" fn bench_cells_bit_by_bit(bytes: &[u8]) -> BenchCells
+pub fn bench_cells_bit_by_bit(bytes: &[u8]) -> BenchCells
     ensures { (21 ≤ length bytes.now → BoardsRead (position_of bytes.now).cells 9 result.words result.rest)
         × (length bytes.now < 21 → (result.words ≡ replicate 23 0) × (result.rest ≡ 0)) }
 {
@@ -95,8 +93,7 @@ pub struct BenchLoaded {
     pub words: [u16; 23],
 }
 
-#[unsafe(no_mangle)]
-pub extern "C" fn bench_load(bytes: &[u8]) -> BenchLoaded
+pub fn bench_load(bytes: &[u8]) -> BenchLoaded
     ensures { (result.code ≡ refusal bytes.now) × (result.code ≡ 0 → Holds (position_of bytes.now) result.words 0) }
 {
     let loaded = record::load(bytes);
@@ -108,8 +105,7 @@ pub extern "C" fn bench_load(bytes: &[u8]) -> BenchLoaded
     }
 }
 
-#[unsafe(no_mangle)]
-pub extern "C" fn bench_load_bit_by_bit(bytes: &[u8]) -> BenchLoaded
+pub fn bench_load_bit_by_bit(bytes: &[u8]) -> BenchLoaded
     ensures { (result.code ≡ refusal bytes.now) × (result.code ≡ 0 → Holds (position_of bytes.now) result.words 0) }
 {
     let loaded = load_bit_by_bit(bytes);

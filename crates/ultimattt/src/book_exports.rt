@@ -19,8 +19,7 @@ pub struct LookupAnswer {
     pub verdict: u32,
 }
 
-#[unsafe(no_mangle)]
-pub extern "C" fn uttt_book_lookup(
+pub fn uttt_book_lookup(
     trainer: bool,
     book: &[u8],
     count: u64,
@@ -57,8 +56,7 @@ pub struct AddAnswer {
     pub count: u64,
 }
 
-#[unsafe(no_mangle)]
-pub extern "C" fn uttt_book_add(
+pub fn uttt_book_add(
     trainer: bool,
     book: &mut [u8],
     count: u64,
@@ -118,8 +116,7 @@ pub struct PublishAnswer {
     pub published: u32,
 }
 
-#[unsafe(no_mangle)]
-pub extern "C" fn uttt_book_publish(
+pub fn uttt_book_publish(
     trainer: bool,
     book: &mut [u8],
     count: u64,

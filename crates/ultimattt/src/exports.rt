@@ -36,8 +36,7 @@ pub struct ReplayAnswer {
     pub index: u64,
 }
 
-#[unsafe(no_mangle)]
-pub extern "C" fn uttt_replay(bytes: &[u8], moves: &[u8], out: &mut [u8]) -> ReplayAnswer
+pub fn uttt_replay(bytes: &[u8], moves: &[u8], out: &mut [u8]) -> ReplayAnswer
     ensures { replay_outcome result.code result.index out.new ≡ replay_call bytes.now moves.now out.old }
 {
     let answer = calls::replay(bytes, moves, out);
@@ -63,8 +62,7 @@ pub struct MovesAnswer {
     pub count: u64,
 }
 
-#[unsafe(no_mangle)]
-pub extern "C" fn uttt_legal_moves(bytes: &[u8], out: &mut [u8]) -> MovesAnswer
+pub fn uttt_legal_moves(bytes: &[u8], out: &mut [u8]) -> MovesAnswer
     ensures { moves_outcome result.code result.index result.count out.new ≡ moves_call bytes.now out.old }
 {
     let answer = calls::legal_moves(bytes, out);
@@ -91,8 +89,7 @@ pub struct RefereeAnswer {
     pub value: u32,
 }
 
-#[unsafe(no_mangle)]
-pub extern "C" fn uttt_referee(bytes: &[u8], rule: u64) -> RefereeAnswer
+pub fn uttt_referee(bytes: &[u8], rule: u64) -> RefereeAnswer
     ensures { referee_outcome result.code result.index result.value ≡ referee_call bytes.now rule }
 {
     let answer = calls::referee(bytes, rule);
@@ -111,13 +108,7 @@ pub extern "C" fn uttt_referee(bytes: &[u8], rule: u64) -> RefereeAnswer
 }
 
 // The agreed opening of two sheets as C has it: how many moves of the first sheet it is, from its front on. The number, 0 or 7, goes into the lent one.
-#[unsafe(no_mangle)]
-pub extern "C" fn uttt_agreed_opening(
-    first: &[u8],
-    second: &[u8],
-    out: &mut [u8],
-    number: &mut u32,
-) -> u64
+pub fn uttt_agreed_opening(first: &[u8], second: &[u8], out: &mut [u8], number: &mut u32) -> u64
     ensures out_after { sheets_outcome (take result first.now) number.new out.new ≡ sheets_call first.now second.now out.old }
     ensures count { result ≡ length (sheets_call first.now second.now out.old).part }
 {
@@ -184,8 +175,7 @@ pub struct SearchAnswer {
     pub result: ResultFields,
 }
 
-#[unsafe(no_mangle)]
-pub extern "C" fn uttt_search(
+pub fn uttt_search(
     bytes: &[u8],
     words: &mut [u32],
     rule: u64,
@@ -247,8 +237,7 @@ pub struct FullAnswer {
     pub second: ResultFields,
 }
 
-#[unsafe(no_mangle)]
-pub extern "C" fn uttt_full_verdict(
+pub fn uttt_full_verdict(
     bytes: &[u8],
     words: &mut [u32],
     limit: u64,

@@ -41,8 +41,7 @@ pub struct GamesAnswer {
     pub results: [ResultFields; MOST_GAMES],
 }
 
-#[unsafe(no_mangle)]
-pub extern "C" fn uttt_judge_games(
+pub fn uttt_judge_games(
     bytes: &[u8],
     words: &mut [u32],
     shares: &[u64; MOST_GAMES],

@@ -1,4 +1,4 @@
-// The library as C links it: the calls of crates calls, sheets, searches, book, games and players, exported with their numbers.
+// The calls of crates calls, sheets, searches, book, games and players with the types and numbers that C has them with. The crate ultimattt_c exports them.
 
 #![tactic(auto)]
 

@@ -19,8 +19,7 @@ pub struct SimulateAnswer {
     pub expanded: u64,
 }
 
-#[unsafe(no_mangle)]
-pub extern "C" fn uttt_simulate(
+pub fn uttt_simulate(
     bytes: &[u8],
     words: &mut [u32],
     seed: u64,
