@@ -11,6 +11,10 @@ const LIBRARY: &str = concat!(
     include_str!("../../../crates/ultimattt/src/book_exports.rt"),
     include_str!("../../../crates/ultimattt/src/games_exports.rt"),
     include_str!("../../../crates/ultimattt/src/players_exports.rt"),
+    include_str!("../../../crates/ultimattt_c/src/exports.rt"),
+    include_str!("../../../crates/ultimattt_c/src/book_exports.rt"),
+    include_str!("../../../crates/ultimattt_c/src/games_exports.rt"),
+    include_str!("../../../crates/ultimattt_c/src/players_exports.rt"),
 );
 /// Has the number of games that the exports name.
 const CHECKS: &str = include_str!("../../../crates/games_checks/src/lib.rt");
