@@ -1,13 +1,11 @@
 -- What is promised of the largest budget (MANUAL, Calls; The third condition): one record, of every call that takes a budget, shares or an allowance. Rests on the
 -- definitions of these calls and on a record's N.
 use Rattle.std.specs.Prelude.{◌≡◌, List, [], ◌∷◌, ℕ, ◌/◌, ◌≤◌, ◌<◌, ltb, get_or}
-use Rattle.rules.specs.Rules.{Player}
 use Rattle.rules.specs.Record.{refusal}
 use Rattle.rules.specs.Refusals.{refuses, first_refusal}
 use Rattle.machine.specs.Machine.{Result, Unknown}
 use Rattle.plain.specs.Plain.{record_sequences}
 use Rattle.passes.specs.Passes.{total}
-use Rattle.matches.specs.Matches.{report}
 use Rattle.stay.specs.declared.Stay.{Stay}
 use Rattle.searches.specs.Searches.{pool_least, pool_most, budget_most, Limits, limits, nodes, search_refusal, Refused, Answered, search_call, Turned, full_call}
 use Rattle.entries.specs.declared.Caller.TheVariants.{Arbiter}
@@ -15,7 +13,6 @@ use Rattle.book.specs.Book.{Book, refused, add_call}
 use Rattle.games_checks.specs.Checks.{games, number_refusal, refusals, earliest, Common, common, shares_of, settings_refusal}
 use Rattle.games.specs.Games.{games_call}
 use Rattle.games.specs.GamesStatement.{grant_of_game}
-use Rattle.players.specs.Players.{Players, budget_of, simulate_outcome, simulate_call}
 
 -- The same with a budget of 0; with an allowance of 0.
 abbrev pub without_budget : Limits → Limits
@@ -35,7 +32,7 @@ games_up_to_ten bytes capacity =
 pub record BudgetStatement : Type 0 where
   -- 3,000,000 is the largest budget:
   pub largest : budget_most ≡ 3000000
-  -- in searches, which are those of search, full verdict, add and simulated players. Up to it the checks come out as with a budget of 0;
+  -- in searches, which are those of search, full verdict and add. Up to it the checks come out as with a budget of 0;
   pub budget_within : (bytes : List ℕ) (capacity rule : ℕ) (L : Limits) → L.budget ≤ budget_most → search_refusal bytes capacity rule L ≡ search_refusal bytes capacity rule (without_budget L)
   -- and in shares and allowance. Up to it the checks come out as with no share and an allowance of 0, and then comes the sum of the shares.
   pub shares_within : (capacity n : ℕ) (shares : List ℕ) (C : Common) → ((i : ℕ) → i < n → get_or shares i 0 ≤ budget_most) → C.allowance ≤ budget_most
@@ -44,12 +41,9 @@ pub record BudgetStatement : Type 0 where
   pub search_over : (bytes : List ℕ) (words rule : ℕ) (L : Limits) → budget_most < L.budget → search_call bytes words rule L ≡ Refused (up_to_ten bytes (nodes words))
   pub full_over : (bytes : List ℕ) (words : ℕ) (L : Limits) → budget_most < L.budget → full_call bytes words L ≡ Turned (up_to_ten bytes (nodes words))
   pub add_over : (bytes : List ℕ) (words rule : ℕ) (L : Limits) (B : Book) → budget_most < L.budget → add_call Arbiter bytes words rule L B ≡ refused B (up_to_ten bytes (nodes words))
-  -- the share of one of the games, the allowance,
+  -- the share of one of the games, and the allowance.
   pub share_over : (bytes shares : List ℕ) (C : Common) (words i : ℕ) → i < games bytes → budget_most < get_or shares i 0 → (games_call bytes words shares C).number ≡ games_up_to_ten bytes (nodes words)
   pub allowance_over : (bytes shares : List ℕ) (C : Common) (words : ℕ) → budget_most < C.allowance → (games_call bytes words shares C).number ≡ games_up_to_ten bytes (nodes words)
-  -- and the budget of a simulated player, X's or O's.
-  pub player_over : (bytes : List ℕ) (words : ℕ) (P : Players) (seed games : ℕ) (side : Player) → budget_most < budget_of P side
-      → simulate_call bytes words P seed games ≡ simulate_outcome (up_to_ten bytes (nodes words)) 0 (report 0 0 0 0)
   -- What a game is granted is at most the allowance, in the second pass too: a budget that is never out of its range.
   pub grant_within : (bytes shares : List ℕ) (C : Common) (words i : ℕ) → (games_call bytes words shares C).number ≡ 0 → i < games bytes
       → (grant_of_game bytes shares C words i ≤ C.allowance) × (C.allowance ≤ budget_most)

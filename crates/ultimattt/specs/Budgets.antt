@@ -68,7 +68,7 @@ add_over bytes words rule L B l =
     sym (refused_by (refused B) _ _ _ (e ∙ sym (arbiter_first _ _ (λ q. z (e ∙ q)))) z)
 
 -- a simulated player's budget: the larger one is over if one of the two is
-player_over : (bytes : List ℕ) (words : ℕ) (P : Players) (seed games : ℕ) (side : Player) → budget_most < budget_of P side
+pub player_over : (bytes : List ℕ) (words : ℕ) (P : Players) (seed games : ℕ) (side : Player) → budget_most < budget_of P side
     → simulate_call bytes words P seed games ≡ simulate_outcome (up_to_ten bytes (nodes words)) 0 (report 0 0 0 0)
 unfolding simulate_refusal
 player_over bytes words P seed games side l =
@@ -161,7 +161,6 @@ budgets = record {
   add_over = add_over;
   share_over = λ bytes shares C words i l h. games_first_up_to_ten bytes shares C words (share_over (nodes words) (games bytes) shares C (above shares (games bytes) i l h));
   allowance_over = λ bytes shares C words h. games_first_up_to_ten bytes shares C words (allowance_over (nodes words) (games bytes) shares C h);
-  player_over = player_over;
   grant_within = λ bytes shares C words i z l. granted bytes shares C words z i l;
   N_within = budgets_of_N;
   enough = λ bytes words rule limit interval y r e l m k. (third_condition bytes rule _ _ words words r r e e).first_decided m k l;

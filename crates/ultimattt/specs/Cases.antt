@@ -1,6 +1,6 @@
 -- The cases of MANUAL, Positions to try, that are proved from the definitions, in one lemma, with ours. Rests on Calls and Searches, on plain's Cases
--- for the records E, W and D and for the plain machine's results, on the rules' Examples for FA, on RoomCases, GamesCases, BudgetCases, ChoiceCases, PlayersCases, StayCases, and on the Cases of
--- stay, meaning, sheets, book, passes, games_checks, matches and cells.
+-- for the records E, W and D and for the plain machine's results, on the rules' Examples for FA, on RoomCases, GamesCases, BudgetCases, ChoiceCases, StayCases, and on the Cases of
+-- stay, meaning, sheets, book, passes, games_checks and cells.
 use Rattle.std.specs.Prelude.{◌≡◌, refl, List, [], ◌∷◌, ◌++◌, ℕ, get_or, replicate}
 use Rattle.rules.specs.Rules.{has_line, state, board, board_states, game_state, move_error, play, legal_moves, replay, drawn, final_value}
 use Rattle.rules.specs.Record.{bit_at, position_of, position_refusal, refusal_to6, impossible_choice, refusal, record_bit, record_of}
@@ -27,11 +27,9 @@ use Rattle.searches.proofs.StayCases.{StayAnswers, stay_answers}
 use Rattle.stay.proofs.Cases.{MarginCases, margin_cases}
 use Rattle.searches.specs.Searches.{Limits, nodes, settings, search_refusal, Refused, Answered, search_call, full_of, Draw, AtLeastDraw, Full, Turned, full_call}
 use Rattle.games_checks.proofs.Cases.{ChecksCases, checks_cases}
-use Rattle.matches.proofs.MatchCases.{MatchCases, match_cases}
 use Rattle.ultimattt.specs.BudgetCases.{BudgetCases, budget_cases}
 use Rattle.ultimattt.specs.ChoiceCases.{ChoiceCases, choice_cases}
 use Rattle.ultimattt.specs.GamesCases.{GamesCases, games_cases}
-use Rattle.ultimattt.specs.PlayersCases.{PlayersCases, players_cases}
 use Rattle.ultimattt.specs.RoomCases as room-cases
 use Rattle.ultimattt.specs.RoomCases.{short_at_once, RoomAnswers, room_answers}
 
@@ -119,9 +117,6 @@ pub record Cases : Type 0 where
   pub budgets : BudgetCases
   -- free choice that can't be, and where it can
   pub choices : ChoiceCases
-  -- simulated players: their games and reports, and the call
-  pub matches : MatchCases
-  pub players : PlayersCases
   -- a record's three words: the cases of crate cells; E with 03 32 and with 32, which take cell 29, and code 3 there
   pub words : WordsCases
   pub O_29 : replay_call E (0x03 ∷ 0x32 ∷ []) out21 ≡ replay_outcome 0 0 (record21 0x100800000000000100000000000000000000000000)
@@ -180,8 +175,6 @@ cases = record {
   games = games_cases;
   budgets = budget_cases;
   choices = choice_cases;
-  matches = match_cases;
-  players = players_cases;
   words = words_cases;
   O_29 = refl;
   X_29 = refl;

@@ -16,8 +16,6 @@ use Rattle.book.specs.Book.{Book, size, used, refused, lookup_call, add_refusal,
 use Rattle.book.specs.Lists.{BookCall, after_calls}
 use Rattle.games_checks.specs.Checks.{games, record_at, number_refusal, refusal_at, Common}
 use Rattle.games.specs.Games.{games_call}
-use Rattle.matches.specs.Matches.{report}
-use Rattle.players.specs.Players.{Players, simulate_outcome, simulate_call}
 
 -- An entry but for its published mark: the record's bytes, and the last byte without its last bit.
 abbrev pub unmarked : Entry → (List ℕ × ℕ)
@@ -30,13 +28,12 @@ pub record ChoiceStatement : Type 0 where
   pub can_be : (bytes : List ℕ) → refusal_to6 bytes ≡ 0 → (ChoiceThatCantBe (position_of bytes) → ⊥) → refusal bytes ≡ 0
   -- First byte FA changes its answer: checks 1 to 6 pass it.
   pub FA_22 : (refusal_to6 FA ≡ 0) × (refusal FA ≡ 22)
-  -- Every call that loads a record follows, whatever else comes in, so before check 7 and all later ones: replay, legal moves, search, full verdict, referee, simulated players;
+  -- Every call that loads a record follows, whatever else comes in, so before check 7 and all later ones: replay, legal moves, search, full verdict, referee;
   pub replay_22 : (bytes moves out : List ℕ) → refusal bytes ≡ 22 → replay_call bytes moves out ≡ replay_outcome 22 0 out
   pub moves_22 : (bytes out : List ℕ) → refusal bytes ≡ 22 → moves_call bytes out ≡ moves_outcome 22 0 0 out
   pub search_22 : (bytes : List ℕ) (words rule : ℕ) (L : Limits) → refusal bytes ≡ 22 → search_call bytes words rule L ≡ Refused 22
   pub full_22 : (bytes : List ℕ) (words : ℕ) (L : Limits) → refusal bytes ≡ 22 → full_call bytes words L ≡ Turned 22
   pub referee_22 : (bytes : List ℕ) (rule : ℕ) → refusal bytes ≡ 22 → referee_call bytes rule ≡ referee_outcome 22 0 0
-  pub simulate_22 : (bytes : List ℕ) (words : ℕ) (P : Players) (seed games : ℕ) → refusal bytes ≡ 22 → simulate_call bytes words P seed games ≡ simulate_outcome 22 0 (report 0 0 0 0)
   -- and games: if no record is refused by an earlier check, 22 names the lowest game whose record it refuses; if one is, the call's number is no later one than that.
   pub games_22 : (bytes shares : List ℕ) (C : Common) (words k : ℕ) → number_refusal bytes ≡ 0 → k < games bytes → refusal_at bytes k ≡ 22
       → ((j : ℕ) → j < games bytes → (refusal_at bytes j ≡ 0) ⊎ (refusal_at bytes j ≡ 22)) → ((j : ℕ) → j < k → refusal_at bytes j ≡ 0)

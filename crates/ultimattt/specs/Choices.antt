@@ -68,7 +68,7 @@ module _ (bytes : List ℕ) (e : refusal bytes ≡ 22) where
   referee_22 : (rule : ℕ) → referee_call bytes rule ≡ referee_outcome 22 0 0
   referee_22 rule = sym (referee_refused bytes rule 22 (referee_record bytes rule 22 (sym e) some) some)
 
-  simulate_22 : (words : ℕ) (P : Players) (seed games : ℕ) → simulate_call bytes words P seed games ≡ simulate_outcome 22 0 (report 0 0 0 0)
+  pub simulate_22 : (words : ℕ) (P : Players) (seed games : ℕ) → simulate_call bytes words P seed games ≡ simulate_outcome 22 0 (report 0 0 0 0)
   unfolding simulate_refusal
   simulate_22 words P seed games =
       let s = by_search (nodes words) 2 (with_budget P (larger P)) in
@@ -143,7 +143,6 @@ choices = record {
   search_22 = λ bytes words rule L e. search_22 bytes e words rule L;
   full_22 = λ bytes words L e. full_22 bytes e words L;
   referee_22 = λ bytes rule e. referee_22 bytes e rule;
-  simulate_22 = λ bytes words P seed games e. simulate_22 bytes e words P seed games;
   games_22 = games_22;
   games_to_6 = games_to_6;
   stay = stay_after unmarked marked_alike;

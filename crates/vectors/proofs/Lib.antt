@@ -1,1 +1,4 @@
+pub mod Compared
+pub mod Counted
+pub mod Lent
 pub mod Margins
