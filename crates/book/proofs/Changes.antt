@@ -14,7 +14,7 @@ use Rattle.calls.specs.Calls.{value_number}
 use Rattle.calls.proofs.Refusing.{refused_by, by_number}
 use Rattle.searches.specs.Searches.{Limits, nodes, settings, Answered, search_call}
 use Rattle.searches.specs.Accepting.{Accepts}
-use Rattle.searches.specs.SearchAnswers.{answered}
+use Rattle.searches.proofs.SearchAnswers.{answered}
 use Rattle.entries.specs.Entries.{Entry, holds_pair, find, place, new_entry, storing, marking}
 use Rattle.entries.proofs.Buffers.{stored_bytes}
 use Rattle.entries.proofs.Placing.{mark_first, entries_marking}

@@ -12,7 +12,8 @@ use Rattle.rules.proofs.Tests.{both_false}
 use Rattle.calls.specs.Calls.{last_rule}
 use Rattle.calls.proofs.Refusing.{passes_test}
 use Rattle.searches.specs.Searches.{Limits, nodes, search_refusal}
-use Rattle.searches.specs.Accepting.{Accepts, accepts}
+use Rattle.searches.specs.Accepting.{Accepts}
+use Rattle.searches.proofs.Accepting.{accepts}
 use Rattle.entries.specs.Entries.{Entry, entries, with_entries, find, new_entry, storing, with_mark, marking}
 use Rattle.entries.specs.declared.Caller.{Caller}
 use Rattle.entries.proofs.Buffers.{All, Whole, all_storing, read_back, length_with_entries, length_entries, entries_whole}

@@ -113,6 +113,9 @@ fn accept_add(
     }
 }
 
+// Unknown's number: it is not stored.
+const UNKNOWN: u8 = 0;
+
 // Searches a position that passed every check, and stores a True or False as the entry at the count.
 fn search_and_store(
     book: &mut [u8],
@@ -131,7 +134,7 @@ fn search_and_store(
     let result = searches::search_accepted(start, words, rule, l);
     let verdict = result.verdict;
     let v = verdict.number() as u8;
-    if v == 0 {
+    if v == UNKNOWN {
         return AddOutcome::Searched(0, count);
     }
     entries::store(book, count, bytes, rule, v);

@@ -22,7 +22,7 @@ use Rattle.calls.specs.Calls.{last_rule, answer_unless}
 use Rattle.stay.specs.Margin.{stay_of}
 use Rattle.searches.specs.Searches.{pool_least, pool_most, interval_least, interval_most, budget_most, nodes, search_refusal, Answered, search_call}
 use Rattle.searches.proofs.SearchAnswers.{search_answered}
-use Rattle.searches.specs.TwoSearches.{third_condition}
+use Rattle.searches.proofs.TwoSearches.{third_condition}
 use Rattle.games_checks.specs.Checks.{games_most, games, record_at, number_refusal, refusal_at, refusals, earliest, lowest, Common, shares_of, settings_refusal}
 use Rattle.games_checks.proofs.Passing.{counted, Settled, settled}
 use Rattle.games_checks.proofs.Naming.{none_early, early_none, earliest_least, lowest_first, lowest_found}

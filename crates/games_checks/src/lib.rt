@@ -98,6 +98,7 @@ pub struct Sum {
 }
 
 // One more share.
+#[tactic(auto, using(crate::proofs::Sums::summing_above))]
 fn added(share: u64, s: Sum) -> Sum
     requires { s.total ≤ games_most * budget_most }
     ensures { (ns : List ℕ) → Summing ns s.above s.total → Summing (share ∷ ns) result.above result.total }

@@ -12,7 +12,8 @@ use Rattle.game.specs.Words.{Holds}
 use Rattle.matches.specs.Matches.{report, play_match}
 use Rattle.calls.proofs.Refusing.{passes_test, refused_by}
 use Rattle.searches.specs.Searches.{nodes, search_refusal}
-use Rattle.searches.specs.Accepting.{Accepts, accepts}
+use Rattle.searches.specs.Accepting.{Accepts}
+use Rattle.searches.proofs.Accepting.{accepts}
 use Rattle.searches.proofs.Pools.{untouched}
 use Rattle.players.specs.Players as players
 use Rattle.players.specs.Players.{budget_of, with_budget, searcher, match_least, match_most, larger, simulate_refusal, simulate_outcome, simulate_call, PoolAfterSimulate, in_play}

@@ -26,7 +26,7 @@ use Rattle.calls.specs.Calls.{answer_unless}
 use Rattle.calls.proofs.Refusing.{by_number}
 use Rattle.searches.specs.Searches.{pool_least, pool_most, interval_least, interval_most, budget_most, Limits, nodes, settings, search_refusal, Answered, search_call, Untouched}
 use Rattle.searches.proofs.SearchAnswers.{search_answered}
-use Rattle.searches.specs.TwoSearches.{third_condition}
+use Rattle.searches.proofs.TwoSearches.{third_condition}
 use Rattle.searches.specs.ThirdCondition.{ThirdCondition}
 use Rattle.players.specs.Players.{Players, budget_of, with_budget, searcher, match_least, match_most, larger, simulate_refusal, PoolAfterSimulate, in_play}
 use Rattle.players.specs.Players.{SimulateOutcome, simulate_outcome, simulate_call}

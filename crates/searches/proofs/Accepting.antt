@@ -5,12 +5,34 @@ use Rattle.std.proofs.Common.{sym, ◌∙◌, arith, le-ltb}
 use Rattle.rules.specs.Record.{position_of, refusal, Accepted}
 use Rattle.rules.proofs.Checks.{loads, loads_accepted}
 use Rattle.rules.specs.Refusals.{refuses, first_refusal}
+use Rattle.rules.proofs.RefusalLaws.{none_refuses, passes_need}
+use Rattle.calls.proofs.Refusing.{passes_test}
 use Rattle.game.specs.Words.{Holds}
 use Rattle.pn.specs.Searches.{Searchable}
 use Rattle.stay.specs.Margin.{stay_in_range}
 use Rattle.calls.specs.Calls.{last_rule}
 use Rattle.searches.specs.Searches.{Limits, pool_least, pool_most, interval_least, interval_most, budget_most, nodes, search_refusal}
-use Rattle.searches.specs.Accepting.{accepts, Passed}
+use Rattle.searches.specs.Accepting.{Accepts, Passed}
+
+pub accepts : (bytes : List ℕ) (words rule : ℕ) (L : Limits) → search_refusal bytes (nodes words) rule L ≡ 0 → Accepts bytes words rule L
+unfolding search_refusal
+accepts bytes words rule L e =
+    let record_loads = none_refuses _ _ e in
+    let pool_at_least = passes_test 7 _ _ _ record_loads.1 in
+    let pool_at_most = passes_test 8 _ _ _ pool_at_least.1 in
+    let rule_most = passes_test 9 _ _ _ pool_at_most.1 in
+    let interval_at_least = passes_test 9 _ _ _ rule_most.1 in
+    let interval_at_most = passes_test 9 _ _ _ interval_at_least.1 in
+    let budget_at_most = passes_test 9 _ _ _ interval_at_most.1 in
+    record {
+      loads = record_loads.0;
+      range = record { some = pool_at_least.0; most = pool_at_most.0 };
+      rule_most = rule_most.0;
+      interval_at_least = interval_at_least.0;
+      interval_at_most = interval_at_most.0;
+      budget_at_most = budget_at_most.0;
+      stay_is_in_range = passes_need 20 _ (none_refuses _ _ budget_at_most.1).0;
+    }
 
 -- the checks, each with the number that the code has for it
 pub accept_code : (bytes : List ℕ) (capacity rule : ℕ) (L : Limits) {record_code pool_none pool_over rule_over interval_under interval_over budget_over margin_none n : ℕ}

@@ -5,4 +5,5 @@ pub mod RefereeAgrees
 pub mod SearchAnswers
 pub mod StayCases
 pub mod Staying
+pub mod TwoSearches
 pub mod UnknownAnswers

@@ -14,9 +14,9 @@ use Rattle.plain.proofs.Cases as plain-cases
 use Rattle.plain.proofs.Cases.{computed_search, starred}
 use Rattle.calls.specs.Calls.{last_rule}
 use Rattle.searches.specs.Searches.{nodes, settings, search_refusal, Answered, search_call}
-use Rattle.searches.specs.SearchAnswers.{answered}
+use Rattle.searches.proofs.SearchAnswers.{answered}
 use Rattle.searches.proofs.SearchAnswers.{search_answered, full_answered}
-use Rattle.searches.specs.TwoSearches.{third_condition}
+use Rattle.searches.proofs.TwoSearches.{third_condition}
 use Rattle.searches.specs.StepThree.{StepThree, search_for_moves, pool, judging}
 
 -- W with five nodes, where one is asked for each legal move

@@ -8,8 +8,8 @@ use Rattle.referee.specs.Agrees.{agrees}
 use Rattle.calls.specs.Calls.{referee_call}
 use Rattle.calls.proofs.Turned.{referee_value}
 use Rattle.searches.specs.Searches.{Limits, nodes, settings, search_refusal, Answered, search_call}
-use Rattle.searches.specs.Accepting.{accepts}
-use Rattle.searches.specs.SearchAnswers.{answered}
+use Rattle.searches.proofs.Accepting.{accepts}
+use Rattle.searches.proofs.SearchAnswers.{answered}
 
 number_of_value : (v : Bool) → verdict_number (cond v True False) ≡ cond v 1 2
 number_of_value true = refl

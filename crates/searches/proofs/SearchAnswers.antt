@@ -1,4 +1,4 @@
--- Laws of specs/SearchAnswers.antt. The answers of search and full verdict, each from the check that decides. Rests on Searches.
+-- The answers of search and full verdict, each from the check that decides. Rests on Searches.
 use Rattle.std.proofs.Math.Path.{◌≡◌, refl, sym}
 use Rattle.std.proofs.Common.{◌∙◌, arith}
 use Rattle.std.specs.Prelude.{List}
@@ -28,6 +28,16 @@ module _ (bytes : List ℕ) (words rule : ℕ) (L : Limits) where
       go zero t h = let z : ◌≡◌ {A = ℕ} 0 1 = cc in absurd (omega arith)
       go (suc k) t h = let i : n ≡ suc k = cc in (i ∙ sym t, λ q. omega (arith, i, q))
 
+  pub answered : (r : Result) → search_call bytes words rule L ≡ Answered r → (search_refusal bytes (nodes words) rule L ≡ 0) × (r ≡ plain_search rule (settings words L) bytes)
+  unfolding search_call
+  answered r e = go (search_refusal bytes (nodes words) rule L) refl e
+    where
+      go : (k : ℕ) → search_refusal bytes (nodes words) rule L ≡ k → answer_unless k Refused (Answered (plain_search rule (settings words L) bytes)) ≡ Answered r
+          → (search_refusal bytes (nodes words) rule L ≡ 0) × (r ≡ plain_search rule (settings words L) bytes)
+      go zero t h = (t, cc)
+      go (suc k) t h = let z : ◌≡◌ {A = ℕ} 0 1 = cc in absurd (omega arith)
+
+-- Full verdict, from the searches under rules 1 and 2
 module _ (bytes : List ℕ) (words : ℕ) (L : Limits) where
   pub full_with : search_refusal bytes (nodes words) 0 L ≡ 0 → (r s : Result) → plain_search 1 (settings words L) bytes ≡ r → plain_search 2 (settings words L) bytes ≡ s
       → full_call bytes words L ≡ Full (full_of r.verdict s.verdict) r s

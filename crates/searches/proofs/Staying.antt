@@ -20,7 +20,7 @@ use Rattle.stay.specs.Margin.{stay_in_range}
 use Rattle.stay.proofs.Steps.{margin_at, at_margin}
 use Rattle.stay.proofs.Exact.{exact, exact_product, one_more}
 use Rattle.searches.specs.Searches.{Limits, pool_least, pool_most, interval_least, interval_most, budget_most, search_refusal}
-use Rattle.searches.specs.TwoSearches.{third_condition}
+use Rattle.searches.proofs.TwoSearches.{third_condition}
 use Rattle.searches.specs.StayStatement.{StayStatement, without_stay, named}
 
 -- step 2, by the test of the child that the remembered move names

@@ -7,8 +7,8 @@ use Rattle.plain.specs.Plain.{plain_search}
 use Rattle.meaning.specs.UnknownMeans.{UnknownMeans}
 use Rattle.meaning.proofs.Unknowns.{unknown_means}
 use Rattle.searches.specs.Searches.{Limits, settings, Answered, search_call, FullVerdict, Full, full_call}
-use Rattle.searches.specs.Accepting.{accepts}
-use Rattle.searches.specs.SearchAnswers.{answered}
+use Rattle.searches.proofs.Accepting.{accepts}
+use Rattle.searches.proofs.SearchAnswers.{answered}
 use Rattle.searches.proofs.SearchAnswers.{full_answered}
 
 module _ (bytes : List ℕ) (words : ℕ) (L : Limits) where

@@ -16,7 +16,7 @@ use Rattle.calls.specs.Calls.{last_rule}
 use Rattle.calls.proofs.Refusing.{refused_by}
 use Rattle.searches.specs.Searches.{pool_least, pool_most, interval_least, interval_most, budget_most, Limits, nodes, search_refusal, Refused, search_call, Turned, full_call}
 use Rattle.searches.proofs.SearchAnswers.{search_refused, full_refused}
-use Rattle.searches.specs.TwoSearches.{third_condition, budgets_of_N}
+use Rattle.searches.proofs.TwoSearches.{third_condition, budgets_of_N}
 use Rattle.entries.specs.declared.Caller.TheVariants.{Arbiter}
 use Rattle.book.specs.Book.{Book, refused, add_refusal, add_call}
 use Rattle.games_checks.specs.Checks.{games, Common, shares_of, settings_refusal}

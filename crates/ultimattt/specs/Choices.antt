@@ -14,9 +14,9 @@ use Rattle.calls.specs.Calls.{replay_outcome, output_refusal, replay_call, moves
 use Rattle.calls.proofs.Turned.{replay_refused, moves_refused, referee_record, referee_refused}
 use Rattle.calls.proofs.Refusing.{refused_by}
 use Rattle.searches.specs.Searches.{Limits, nodes, search_refusal, Refused, search_call, Turned, full_call}
-use Rattle.searches.specs.SearchAnswers.{answered}
+use Rattle.searches.proofs.SearchAnswers.{answered}
 use Rattle.searches.proofs.SearchAnswers.{search_refused, full_refused}
-use Rattle.searches.specs.Accepting.{accepts}
+use Rattle.searches.proofs.Accepting.{accepts}
 use Rattle.entries.specs.Entries.{Entry, find}
 use Rattle.entries.proofs.Placing.{marked}
 use Rattle.entries.specs.declared.Caller.{Caller}

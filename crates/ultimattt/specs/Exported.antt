@@ -7,7 +7,7 @@ use Rattle.prove.specs.Numbers.{verdict_number}
 use Rattle.calls.specs.Calls.{RefereeOutcome, referee_call}
 use Rattle.searches.specs.Searches.{Limits, Searched, Answered, Refused, search_call}
 use Rattle.searches.proofs.SearchAnswers.{refused}
-use Rattle.searches.specs.TwoSearches.{third_condition}
+use Rattle.searches.proofs.TwoSearches.{third_condition}
 use Rattle.searches.proofs.RefereeAgrees.{referee_agrees}
 use Rattle.ultimattt.specs.Exports.{Fields, SearchNumbers, fields_of, searched_numbers}
 use Rattle.ultimattt.specs.TwoAnswers.{TwoAnswers}

@@ -5,7 +5,7 @@ use Prim.Native.Nat.{◌<◌}
 use Rattle.rules.proofs.Checks.{loads_length}
 use Rattle.machine.specs.Machine.{Result}
 use Rattle.prove.specs.Numbers.{verdict, verdict_number}
-use Rattle.searches.specs.Accepting.{accepts}
+use Rattle.searches.proofs.Accepting.{accepts}
 use Rattle.book.specs.Book.{book_of}
 use Rattle.book.proofs.ByCheck.{number_few, none_stored, one_stored}
 use Rattle.book.proofs.search_and_store.Goals as goal
@@ -13,10 +13,10 @@ use Rattle.book.proofs.search_and_store.Goals as goal
 pub overflow_cast-v : goal.overflow_cast-v
 overflow_cast-v c = let h : c.number-v.result < 4 = rw c.number-v.ensures (number_few (verdict c.search_accepted-result.result.verdict)) in omega arith
 
-pub returns-then-v-eq0 : goal.returns-then-v-eq0
-returns-then-v-eq0 c =
+pub returns-then-v-eq-UNKNOWN : goal.returns-then-v-eq-UNKNOWN
+returns-then-v-eq-UNKNOWN c =
     let v = c.number-v.ensures ∙ ap (λ (r : Result). verdict_number r.verdict) (c.search_accepted-result.ensures.0 _ c.requires.0) in
-    record { count_after = none_stored (book_of c.args.book.now c.args.count) _ _ v c.if-v-eq0.true; pool = c.search_accepted-result.ensures.1 }
+    record { count_after = none_stored (book_of c.args.book.now c.args.count) _ _ v c.if-v-eq-UNKNOWN.true; pool = c.search_accepted-result.ensures.1 }
 
 pub store-requires : goal.store-requires
 store-requires c =
@@ -27,4 +27,4 @@ store-requires c =
 pub returns : goal.returns
 returns c =
     let v = c.number-v.ensures ∙ ap (λ (r : Result). verdict_number r.verdict) (c.search_accepted-result.ensures.0 _ c.requires.0) in
-    record { count_after = one_stored (book_of c.args.book.now c.args.count) _ _ _ v c.if-v-eq0.false c.store.ensures; pool = c.search_accepted-result.ensures.1 }
+    record { count_after = one_stored (book_of c.args.book.now c.args.count) _ _ _ v c.if-v-eq-UNKNOWN.false c.store.ensures; pool = c.search_accepted-result.ensures.1 }

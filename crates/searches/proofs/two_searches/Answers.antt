@@ -1,6 +1,6 @@
 -- `searches::two_searches` meets its contract: the third condition, of the results that two calls of search give. Rests on TwoSearches.
 use mathlib.Core.Path.{sym, ◌∙◌}
-use Rattle.searches.specs.TwoSearches.{third_condition}
+use Rattle.searches.proofs.TwoSearches.{third_condition}
 use Rattle.searches.proofs.two_searches.Goals as goal
 
 pub returns-clause-third_condition : goal.returns-clause-third_condition

@@ -5,8 +5,8 @@ use Rattle.machine.specs.Machine.{Result}
 use Rattle.plain.specs.Plain.{record_sequences}
 use Rattle.plain.proofs.TwoSearches as plain-searches
 use Rattle.searches.specs.Searches.{budget_most, Limits, Answered, settings, search_call}
-use Rattle.searches.specs.Accepting.{accepts}
-use Rattle.searches.specs.SearchAnswers.{answered}
+use Rattle.searches.proofs.Accepting.{accepts}
+use Rattle.searches.proofs.SearchAnswers.{answered}
 use Rattle.searches.specs.ThirdCondition.{ThirdCondition}
 
 -- positive is not 0
