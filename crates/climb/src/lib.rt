@@ -21,7 +21,7 @@ pub struct Ascent {
     pub prover: Prover,
 }
 
-// The least delta and the held sum of phi of the siblings from `first` on. In a search no such sum is held (machine/specs/Unheld.antt, reached_unheld).
+// The least delta and the held sum of phi of the siblings from `first` on. In a search no such sum is held (machine/proofs/Unheld.antt, reached_unheld).
 pub fn recompute(words: &[u32], first: NodeID) -> Bounds
     requires { Recomputable words.now first.0 }
     ensures { Recomputes words.now first.0 result.phi result.delta }
@@ -74,7 +74,7 @@ fn raised_phi(words: &[u32], first: NodeID, child: NodeID, held: u32, delta: u32
 
 // The delta of a node that had the delta `held`, where one of its children had the phi `was` and has a new one. Where the
 // sum was held at the largest number, it is summed anew. In a search it never was: the delta of an expanded unsolved node is below
-// 16777216 (machine/specs/Reached.antt, reached_numbers). The test stays since the contract is about any list of siblings, whatever its sum.
+// 16777216 (machine/proofs/Reached.antt, reached_numbers). The test stays since the contract is about any list of siblings, whatever its sum.
 fn raised_delta(words: &[u32], first: NodeID, held: u32, was: u32, phi: u32) -> u32
     requires { DeltaRaisable words.now first.0 held was phi }
     ensures { RaisesDelta words.now first.0 held was phi result }

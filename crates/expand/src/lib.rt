@@ -62,7 +62,7 @@ pub struct Parent {
     pub and: bool,
 }
 
-// One child more, listed first. In a search the sum of phi is never held here (machine/specs/Unheld.antt, reached_unheld).
+// One child more, listed first. In a search the sum of phi is never held here (machine/proofs/Unheld.antt, reached_unheld).
 fn add_child(words: &mut [u32], m: Made, mv: Move, value: Evaluation, and: bool) -> Made
     requires { Addable words.old m mv.0 (verdict value) and }
     ensures { Adds words.old m mv.0 (verdict value) and words.new result }

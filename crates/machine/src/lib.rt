@@ -1,3 +1,3 @@
-// The plain machine of proof-number search over any game: definitions and laws only, in specs/.
+// The plain machine of proof-number search over any game: definitions, in specs/, and laws, in proofs/.
 
 #![tactic(auto)]

@@ -1,3 +1,3 @@
-// Games of two players that search and draw moves, and their report: definitions and laws only, in specs/.
+// Games of two players that search and draw moves, and their report: definitions, in specs/, and laws, in proofs/.
 
 #![tactic(auto)]

@@ -1,3 +1,3 @@
-// What proof and disproof of an Unknown mean: definitions and laws only, in specs/.
+// What proof and disproof of an Unknown mean: definitions, in specs/, and laws, in proofs/.
 
 #![tactic(auto)]

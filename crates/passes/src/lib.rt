@@ -1,3 +1,3 @@
-// Two passes of games that share one allowance of expansions: definitions and laws only, in specs/.
+// Two passes of games that share one allowance of expansions: definitions, in specs/, and laws, in proofs/.
 
 #![tactic(auto)]

@@ -1,3 +1,3 @@
-// Ultimate Tic Tac Toe as a game of the plain machine: definitions and laws only, in specs/.
+// Ultimate Tic Tac Toe as a game of the plain machine: definitions, in specs/, and laws, in proofs/.
 
 #![tactic(auto)]

@@ -74,7 +74,7 @@ impl Bounds {
     }
 }
 
-// The sum, held at the largest number. No search of an accepted position comes to that (plain/specs/Unheld.antt).
+// The sum, held at the largest number. No search of an accepted position comes to that (plain/proofs/Unheld.antt).
 pub fn held_sum(a: u32, b: u32) -> u32
     ensures { result ≡ min (a + b) u32_max }
 {

@@ -1,3 +1,3 @@
-// Trees and free nodes in the words of a pool, five to a node: definitions and laws only, in specs/.
+// Trees and free nodes in the words of a pool, five to a node: definitions, in specs/, and laws, in proofs/.
 
 #![tactic(auto)]
