@@ -1,4 +1,4 @@
-// Proof and disproof numbers, ported from prove.rs: INFINITY, Evaluation, Bounds, and the held sum that stands for saturating_add.
+// Proof and disproof numbers, ported from prove.rs: INFINITY, Evaluation, Bounds, the held sum and the less of two.
 
 #![tactic(auto)]
 
@@ -10,10 +10,10 @@ ghost use Rattle.prove.specs.Numbers.{number, Pair};
 pub const INFINITY: u32 = 2147483648;
 
 // The largest number: a sum is held there.
-pub const MOST: u32 = 4294967295;
+pub const MOST: u32 = u32::MAX;
 
 // What is known of a position's value for the root's side.
-#[derive(Clone, Copy)]
+#[derive(Clone, Copy, PartialEq, Eq)]
 pub enum Evaluation {
     True,
     False,
@@ -21,6 +21,7 @@ pub enum Evaluation {
 }
 
 impl Evaluation {
+    // A match and not the variants' discriminants: two of those may not be equal, and the edit true-is-two makes two numbers equal.
     pub fn number(self) -> u32
         ensures { result ≡ number self }
     {
@@ -78,12 +79,12 @@ impl Bounds {
 pub fn held_sum(a: u32, b: u32) -> u32
     ensures { result ≡ min (a + b) u32_max }
 {
-    if b <= MOST - a { a + b } else { MOST }
+    a.saturating_add(b)
 }
 
 // The less of two.
 pub fn least(a: u32, b: u32) -> u32
     ensures { result ≡ min a b }
 {
-    if b < a { b } else { a }
+    a.min(b)
 }
