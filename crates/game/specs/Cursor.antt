@@ -1,6 +1,6 @@
 -- The legal moves from a place of the board on: what is left to a cursor that goes over the 81 cells in move order. Rests on the rules and Errors.
 use Prim.Native.Nat.{ℕ, suc, ◌+◌, ◌*◌, ◌-◌, ◌/◌, ◌%◌, ◌<◌, ◌≤◌}
-use Rattle.std.specs.Prelude.{◌≡◌, refl, Bool, true, false, cond, not, ◌&&◌, eqb}
+use Rattle.std.specs.Prelude.{◌≡◌, refl, Bool, true, false, cond, not, ◌&&◌, eqb, Option, Some, None}
 use Rattle.std.proofs.Common.{ap, sym, subst, ◌∙◌, add-one}
 use mathlib.Core.List.{List, [], ◌∷◌, nil≢cons}
 use native.Mathlib.Omega.{arith}
@@ -9,9 +9,6 @@ use Rattle.rules.specs.Rules.{Position, code, answers, board_states, game_state,
 use Rattle.game.specs.Words.{Holds}
 use Rattle.game.specs.Errors.{cell_error}
 use Rattle.game.specs.declared.Move.{Move}
-use Rattle.game.specs.declared.cursor.MoveIterator.{MoveIterator}
-use Rattle.game.specs.declared.cursor.Step.{Step}
-use Rattle.game.specs.declared.cursor.Step.TheVariants.{Next, End}
 
 -- the move at place i, and the legal moves from there on, in a game in play
 abbrev pub move_at : ℕ → ℕ
@@ -59,18 +56,18 @@ pub moves_end : (p : Position) (i : ℕ) → 81 ≤ i → moves_from p i ≡ []
 unfolding moves_from
 moves_end p i h = let e : 81 - i ≡ 0 = omega arith in rw e
 
--- one step of a cursor at place i: the first move of those left, with a cursor that has the rest; or none is left
-abbrev pub Stepped : Position → ℕ → Step → Type 0
-Stepped p i (Next m rest) = (moves_from p i ≡ m.0 ∷ moves_from p rest.at) × (i < rest.at)
-Stepped p i End = moves_from p i ≡ []
+-- one step of a cursor from place i to place j: the first move of those left, and from j on the rest; or none is left
+abbrev pub Stepped : Position → ℕ → Option Move → ℕ → Type 0
+Stepped p i (Some m) j = (moves_from p i ≡ m.0 ∷ moves_from p j) × (i < j)
+Stepped p i None j = moves_from p i ≡ []
 
 -- what a step says, by its two answers
-module _ (ws : List ℕ) (base i : ℕ) (s : Step) (stepped : (p : Position) → Holds p ws base → Stepped p i s) where
-  pub next_is : (m : Move) (rest : MoveIterator) → s ≡ Next m rest → (p : Position) → Holds p ws base → (moves_from p i ≡ m.0 ∷ moves_from p rest.at) × (i < rest.at)
-  next_is m rest e p h = subst (Stepped p i) e (stepped p h)
+module _ (ws : List ℕ) (base i j : ℕ) (s : Option Move) (stepped : (p : Position) → Holds p ws base → Stepped p i s j) where
+  pub next_is : (m : Move) → s ≡ Some m → (p : Position) → Holds p ws base → (moves_from p i ≡ m.0 ∷ moves_from p j) × (i < j)
+  next_is m e p h = subst (λ (x : Option Move). Stepped p i x j) e (stepped p h)
 
-  pub end_is : s ≡ End → (p : Position) → Holds p ws base → moves_from p i ≡ []
-  end_is e p h = subst (Stepped p i) e (stepped p h)
+  pub end_is : s ≡ None → (p : Position) → Holds p ws base → moves_from p i ≡ []
+  end_is e p h = subst (λ (x : Option Move). Stepped p i x j) e (stepped p h)
 
 -- where a move is left, the place lies within the 81
 pub moves_within : (p : Position) (i m : ℕ) (ms : List ℕ) → moves_from p i ≡ m ∷ ms → i < 81

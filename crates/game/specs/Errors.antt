@@ -1,5 +1,5 @@
 -- The five errors of a move, in the two parts in which the code looks for them, and that none has the number 0. Rests on the rules and Numbers.
-use Rattle.std.specs.Prelude.{ℕ, ◌+◌, ◌*◌, ◌≡◌, true, false, cond, not, ◌&&◌, eqb, ltb}
+use Rattle.std.specs.Prelude.{ℕ, ◌+◌, ◌*◌, ◌≡◌, true, false, cond, not, ◌&&◌, eqb, ltb, Result, Err}
 use Rattle.std.proofs.Common.{sym, ap, ◌∙◌, arith, ltb-true}
 use Rattle.rules.specs.Rules.{Position, code, board_states, game_state, board_of, cell_of, leads, move_error}
 use Rattle.rules.proofs.Tests.{both_true}
@@ -7,8 +7,6 @@ use Rattle.rules.proofs.Boards.{code_states}
 use Rattle.game.specs.Numbers.{error_number, result_number}
 use Rattle.game.specs.declared.MoveError.{MoveError}
 use Rattle.game.specs.declared.MoveError.TheVariants.{OutOfBounds, GameOver, WonBoard, WrongBoard, NotEmpty}
-use Rattle.game.specs.declared.MoveResult.{MoveResult}
-use Rattle.game.specs.declared.MoveResult.TheVariants.{Err}
 
 -- the errors of cell c of board b, in a game in play
 abbrev pub cell_error : Position → ℕ → ℕ → ℕ
@@ -39,5 +37,5 @@ error_number_some WonBoard q = omega arith
 error_number_some WrongBoard q = omega arith
 error_number_some NotEmpty q = omega arith
 
-pub err_number : (r : MoveResult) (e : MoveError) → r ≡ Err e → result_number r ≡ 0 → ⊥
+pub err_number : {A : Type 0} (r : Result A MoveError) (e : MoveError) → r ≡ Err e → result_number r ≡ 0 → ⊥
 err_number r e q z = error_number_some e (sym (ap result_number q) ∙ z)

@@ -1,5 +1,5 @@
 -- The numbers of the code's enums (MANUAL, The game; Record; Turned back). Rests on nothing.
-use Rattle.std.specs.Prelude.{ℕ}
+use Rattle.std.specs.Prelude.{ℕ, Result, Ok, Err}
 use Rattle.game.specs.declared.Player.{Player}
 use Rattle.game.specs.declared.Player.TheVariants.{X, O}
 use Rattle.game.specs.declared.CellState.{CellState}
@@ -8,8 +8,6 @@ use Rattle.game.specs.declared.GameState.{GameState}
 use Rattle.game.specs.declared.GameState.TheVariants.{InPlay, Drawn, Won}
 use Rattle.game.specs.declared.MoveError.{MoveError}
 use Rattle.game.specs.declared.MoveError.TheVariants.{OutOfBounds, GameOver, WonBoard, WrongBoard, NotEmpty}
-use Rattle.game.specs.declared.MoveResult.{MoveResult}
-use Rattle.game.specs.declared.MoveResult.TheVariants.{Ok, Err}
 
 -- the side bit of a record
 abbrev pub player_number : Player → ℕ
@@ -37,6 +35,7 @@ error_number WonBoard = 13
 error_number WrongBoard = 14
 error_number NotEmpty = 15
 
-abbrev pub result_number : MoveResult → ℕ
-result_number Ok = 0
+-- a move's error, 0 for none
+abbrev pub result_number : {A : Type 0} → Result A MoveError → ℕ
+result_number (Ok x) = 0
 result_number (Err e) = error_number e

@@ -2,11 +2,11 @@
 
 #![tactic(auto)]
 
-ghost use Rattle.std.specs.Prelude.{◌≡◌, cond, not, ◌&&◌, ◌+◌, ◌-◌, ◌*◌, ◌^◌, ◌<◌, ◌≤◌, length, get_or, eqb, ltb};
+ghost use Rattle.std.specs.Prelude.{◌≡◌, cond, not, ◌&&◌, ◌+◌, ◌-◌, ◌*◌, ◌^◌, ◌<◌, ◌≤◌, IfOk, length, get_or, eqb, ltb};
 ghost use Rattle.rules.specs.Rules.{Position, board_states, game_state, board_of, cell_of, move_of, leads, move_error, code};
 ghost use Rattle.game.specs.Numbers.{player_number, cell_number, state_number, result_number};
 ghost use Rattle.game.specs.Masks.{has_bit, mask_of, nonzero};
-ghost use Rattle.game.specs.Lines.{line_in, line_table};
+ghost use Rattle.game.specs.Lines.{line_in};
 ghost use Rattle.game.specs.Words.{Holds, Held};
 ghost use Rattle.game.specs.Errors.{cell_error};
 ghost use Rattle.game.specs.Moves.{Movable, Moved, Planned, Tried, stored};
@@ -14,7 +14,7 @@ ghost use Rattle.game.specs.Moves.{Movable, Moved, Planned, Tried, stored};
 pub mod cursor;
 mod table;
 
-#[derive(Clone, Copy)]
+#[derive(Clone, Copy, PartialEq, Eq)]
 pub enum Player {
     X,
     O,
@@ -31,13 +31,13 @@ impl Player {
     }
 }
 
-#[derive(Clone, Copy)]
+#[derive(Clone, Copy, PartialEq, Eq)]
 pub enum CellState {
     Empty,
     Played(Player),
 }
 
-#[derive(Clone, Copy)]
+#[derive(Clone, Copy, PartialEq, Eq)]
 pub enum GameState {
     InPlay,
     Drawn,
@@ -48,16 +48,12 @@ impl GameState {
     pub fn terminal(self) -> bool
         ensures { result ≡ not (eqb (state_number self) 0) }
     {
-        match self {
-            GameState::InPlay => false,
-            GameState::Drawn => true,
-            GameState::Won(_) => true,
-        }
+        matches!(self, GameState::Drawn | GameState::Won(_))
     }
 }
 
 // A move: board in the high four bits, cell in the low four.
-#[derive(Clone, Copy)]
+#[derive(Clone, Copy, PartialEq, Eq)]
 pub struct Move(pub u8);
 
 impl Move {
@@ -88,7 +84,7 @@ impl Move {
     }
 }
 
-#[derive(Clone, Copy)]
+#[derive(Clone, Copy, PartialEq, Eq)]
 pub enum MoveError {
     OutOfBounds,
     GameOver,
@@ -97,26 +93,12 @@ pub enum MoveError {
     NotEmpty,
 }
 
-// In place of the Rust's Result<(), MoveError>.
-#[derive(Clone, Copy)]
-pub enum MoveResult {
-    Ok,
-    Err(MoveError),
-}
-
-// The table, to be copied once for a call and lent from there.
-pub fn line_table() -> [u8; 512]
-    ensures { result ≡ line_table }
-{
-    table::LINE
-}
-
 // Whether nine bits hold a line. It serves boards and the game.
-pub fn line(table: &[u8; 512], bits: u16) -> bool
-    requires { (table.now ≡ line_table) × (bits < 512) }
+pub fn line(bits: u16) -> bool
+    requires { bits < 512 }
     ensures { result ≡ line_in bits }
 {
-    table[bits as usize] == 1
+    table::LINE[bits as usize] == 1
 }
 
 // Bit c alone.
@@ -190,14 +172,14 @@ pub fn in_play(words: &[u16], base: usize, b: usize) -> bool
     !has(done_bits(words, base), b)
 }
 
-pub fn game_state(table: &[u8; 512], words: &[u16], base: usize) -> GameState
-    requires { (table.now ≡ line_table) × Held words.now base }
+pub fn game_state(words: &[u16], base: usize) -> GameState
+    requires { Held words.now base }
     ensures { (p : Position) → Holds p words.now base → state_number result ≡ game_state p }
 {
-    if line(table, won_bits(words, base, 0)) {
+    if line(won_bits(words, base, 0)) {
         return GameState::Won(Player::X);
     }
-    if line(table, won_bits(words, base, 1)) {
+    if line(won_bits(words, base, 1)) {
         return GameState::Won(Player::O);
     }
     if done_bits(words, base) == 511 {
@@ -224,15 +206,7 @@ pub fn at(words: &[u16], base: usize, b: usize, c: usize) -> CellState
 pub fn in_bounds(m: Move) -> bool
     ensures { result ≡ (ltb (board_of m.0) 9 && ltb (cell_of m.0) 9) }
 {
-    let b = m.global();
-    let c = m.local();
-    match b {
-        0..=8 => match c {
-            0..=8 => true,
-            _ => false,
-        },
-        _ => false,
-    }
+    matches!(m.global(), 0..=8) && matches!(m.local(), 0..=8)
 }
 
 // Whether the target lets its side play on board b.
@@ -248,33 +222,32 @@ pub fn led_to(target: u16, b: usize) -> bool
 }
 
 // The errors that a cell of a game in play can have: WonBoard, WrongBoard, NotEmpty, in this order.
-fn check_cell(words: &[u16], base: usize, b: usize, c: usize) -> MoveResult
+fn check_cell(words: &[u16], base: usize, b: usize, c: usize) -> Result<(), MoveError>
     requires { Held words.now base × (b < 9) × (c < 9) }
     ensures { (p : Position) → Holds p words.now base → result_number result ≡ cell_error p b c }
 {
     if !in_play(words, base, b) {
-        return MoveResult::Err(MoveError::WonBoard);
+        return Err(MoveError::WonBoard);
     }
     if !led_to(target(words, base), b) {
-        return MoveResult::Err(MoveError::WrongBoard);
+        return Err(MoveError::WrongBoard);
     }
-    let cell = at(words, base, b, c);
-    match cell {
-        CellState::Empty => MoveResult::Ok,
-        CellState::Played(_) => MoveResult::Err(MoveError::NotEmpty),
+    match at(words, base, b, c) {
+        CellState::Empty => Ok(()),
+        CellState::Played(_) => Err(MoveError::NotEmpty),
     }
 }
 
 // The first of the five errors, or Ok.
-pub fn check_move(table: &[u8; 512], words: &[u16], base: usize, m: Move) -> MoveResult
-    requires { (table.now ≡ line_table) × Held words.now base }
+pub fn check_move(words: &[u16], base: usize, m: Move) -> Result<(), MoveError>
+    requires { Held words.now base }
     ensures { (p : Position) → Holds p words.now base → result_number result ≡ move_error p m.0 }
 {
     if !in_bounds(m) {
-        return MoveResult::Err(MoveError::OutOfBounds);
+        return Err(MoveError::OutOfBounds);
     }
-    if game_state(table, words, base).terminal() {
-        return MoveResult::Err(MoveError::GameOver);
+    if game_state(words, base).terminal() {
+        return Err(MoveError::GameOver);
     }
     check_cell(words, base, m.global(), m.local())
 }
@@ -287,11 +260,11 @@ pub struct BoardEnd {
 }
 
 // The end of a board, from the mover's cells on it after the move, the other side's, and its bit.
-fn end_of_board(table: &[u8; 512], mine: u16, theirs: u16, own: u16) -> BoardEnd
-    requires { (table.now ≡ line_table) × (mine < 512) × (theirs < 512) }
+fn end_of_board(mine: u16, theirs: u16, own: u16) -> BoardEnd
+    requires { (mine < 512) × (theirs < 512) }
     ensures { (result.won ≡ cond (line_in mine) own 0) × (result.drawn ≡ cond (line_in mine) 0 (cond (eqb (mine + theirs) 511) own 0)) × (result.won + result.drawn ≤ own) }
 {
-    if line(table, mine) {
+    if line(mine) {
         return BoardEnd { won: own, drawn: 0 };
     }
     if mine + theirs == 511 {
@@ -319,8 +292,8 @@ pub struct Stores {
 }
 
 // What a legal move stores.
-fn plan_move(table: &[u8; 512], words: &[u16], base: usize, m: Move) -> Stores
-    requires { (table.now ≡ line_table) × Movable words.now base m.0 }
+fn plan_move(words: &[u16], base: usize, m: Move) -> Stores
+    requires { Movable words.now base m.0 }
     ensures { Planned words.now base m.0 result.side result.mine result.won result.drawn result.target }
 {
     let b = m.global();
@@ -328,7 +301,7 @@ fn plan_move(table: &[u8; 512], words: &[u16], base: usize, m: Move) -> Stores
     let side = side_to_move(words, base);
     let mine = player_bits(words, base, side, b) + bit(c);
     let theirs = player_bits(words, base, 1 - side, b);
-    let end = end_of_board(table, mine, theirs, bit(b));
+    let end = end_of_board(mine, theirs, bit(b));
     let done = done_bits(words, base) + (end.won + end.drawn);
     Stores {
         side,
@@ -344,36 +317,30 @@ fn store_move(words: &mut [u16], base: usize, b: usize, s: Stores)
     requires { (base + 23 ≤ length words.old) × (s.side < 2) × (b < 9) }
     ensures { words.new ≡ stored words.old base s.side b s.mine s.won s.drawn s.target (1 - s.side) }
 {
-    let side = s.side;
-    words[base + (side * 9 + b)] = s.mine;
-    words[base + (18 + side)] = s.won;
+    words[base + (s.side * 9 + b)] = s.mine;
+    words[base + (18 + s.side)] = s.won;
     words[base + 20] = s.drawn;
     words[base + 21] = s.target;
-    words[base + 22] = (1 - side) as u16;
+    words[base + 22] = (1 - s.side) as u16;
 }
 
 // A legal move made in place.
-pub fn apply_move(table: &[u8; 512], words: &mut [u16], base: usize, m: Move)
-    requires { (table.now ≡ line_table) × Movable words.old base m.0 }
+pub fn apply_move(words: &mut [u16], base: usize, m: Move)
+    requires { Movable words.old base m.0 }
     ensures { (p : Position) → Holds p words.old base → move_error p m.0 ≡ 0 → Moved p m.0 base words.old words.new }
 {
-    let s = plan_move(table, words, base, m);
+    let s = plan_move(words, base, m);
     store_move(words, base, m.global(), s);
 }
 
 // A move tried in place: made if it is none of the five errors.
-pub fn inplace_move(table: &[u8; 512], words: &mut [u16], base: usize, m: Move) -> MoveResult
-    requires { (table.now ≡ line_table) × Held words.old base }
+pub fn inplace_move(words: &mut [u16], base: usize, m: Move) -> Result<(), MoveError>
+    requires { Held words.old base }
     ensures { (p : Position) → Holds p words.old base → Tried p m.0 base words.old words.new (result_number result) }
 {
-    let r = check_move(table, words, base, m);
-    match r {
-        MoveResult::Ok => {
-            apply_move(table, words, base, m);
-            r
-        },
-        MoveResult::Err(_) => r,
-    }
+    check_move(words, base, m)?;
+    apply_move(words, base, m);
+    Ok(())
 }
 
 // A position by value.
@@ -382,23 +349,14 @@ pub struct Game {
     pub words: [u16; 23],
 }
 
-// A move's result, and the position after it; the position as it was after an error.
-#[derive(Clone, Copy)]
-pub struct Made {
-    pub result: MoveResult,
-    pub game: Game,
-}
-
 impl Game {
-    pub fn make_move(self, table: &[u8; 512], m: Move) -> Made
-        requires { (table.now ≡ line_table) × Held self.words 0 }
-        ensures { (p : Position) → Holds p self.words 0 → Tried p m.0 0 self.words result.game.words (result_number result.result) }
+    // The position after a move, or the first of the five errors.
+    pub fn make_move(mut self, m: Move) -> Result<Game, MoveError>
+        requires { Held self.words 0 }
+        ensures number { (p : Position) → Holds p self.words 0 → result_number result ≡ move_error p m.0 }
+        ensures made { (p : Position) → Holds p self.words 0 → IfOk result (λ g. Moved p m.0 0 self.words g.words) }
     {
-        let mut words = self.words;
-        let result = inplace_move(table, &mut words, 0, m);
-        Made {
-            result,
-            game: Game { words },
-        }
+        inplace_move(&mut self.words, 0, m)?;
+        Ok(self)
     }
 }

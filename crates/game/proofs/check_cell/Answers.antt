@@ -22,7 +22,7 @@ returns-then-not-led_to c p h =
 pub returns-in-Empty : goal.returns-in-Empty
 returns-in-Empty c p h =
     let led = c.led_to.ensures ∙ ap (λ (x : ℕ). leads x c.args.b) (c.target.ensures ∙ h.target) in
-    sym (rw (sym (ap not (c.in_play.ensures p h)) ∙ c.if-not-in_play.false-raw, sym (ap not led) ∙ c.if-not-led_to.false-raw, sym (c.at-cell.ensures p h) ∙ ap cell_number c.in-Empty.is))
+    sym (rw (sym (ap not (c.in_play.ensures p h)) ∙ c.if-not-in_play.false-raw, sym (ap not led) ∙ c.if-not-led_to.false-raw, sym (c.at.ensures p h) ∙ ap cell_number c.in-Empty.is))
 
 -- a played cell is not empty
 taken : (cell : CellState) (s : Player) → cell ≡ Played s → {n : ℕ} → cell_number cell ≡ n → eqb n 0 ≡ false
@@ -32,4 +32,4 @@ taken cell O e q = rw (sym q, e)
 pub returns-in-Played : goal.returns-in-Played
 returns-in-Played c p h =
     let led = c.led_to.ensures ∙ ap (λ (x : ℕ). leads x c.args.b) (c.target.ensures ∙ h.target) in
-    sym (rw (sym (ap not (c.in_play.ensures p h)) ∙ c.if-not-in_play.false-raw, sym (ap not led) ∙ c.if-not-led_to.false-raw, taken _ _ c.in-Played.is (c.at-cell.ensures p h)))
+    sym (rw (sym (ap not (c.in_play.ensures p h)) ∙ c.if-not-in_play.false-raw, sym (ap not led) ∙ c.if-not-led_to.false-raw, taken _ _ c.in-Played.is (c.at.ensures p h)))

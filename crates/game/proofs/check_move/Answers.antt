@@ -29,7 +29,7 @@ pub check_cell-requires : goal.check_cell-requires
 check_cell-requires c =
     let m = c.args.m.0 in
     let t = both_true (ltb (board_of m) 9) (ltb (cell_of m) 9) (inside _ m c.in_bounds.ensures c.if-not-in_bounds.false-raw) in
-    (c.requires.1, omega (arith, c.global.ensures, ltb-true (board_of m) 9 t.0), omega (arith, c.local.ensures, ltb-true (cell_of m) 9 t.1))
+    (c.requires, omega (arith, c.global.ensures, ltb-true (board_of m) 9 t.0), omega (arith, c.local.ensures, ltb-true (cell_of m) 9 t.1))
 
 pub returns : goal.returns
 returns c p h =

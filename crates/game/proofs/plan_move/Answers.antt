@@ -6,21 +6,20 @@ use Rattle.game.specs.Moves.{mine_small, planned}
 use Rattle.game.proofs.plan_move.Goals as goal
 
 pub player_bits-requires : goal.player_bits-requires
-player_bits-requires c = ((c.requires.1.0, c.requires.1.1), c.side_to_move-side.ensures.1, omega (arith, c.global-b.ensures.0, (legal _ _ c.requires.1.2).board_in))
+player_bits-requires c = ((c.requires.0, c.requires.1), c.side_to_move-side.ensures.1, omega (arith, c.global-b.ensures.0, (legal _ _ c.requires.2).board_in))
 
 pub bit-requires : goal.bit-requires
-bit-requires c = omega (arith, c.local-c.ensures.0, (legal _ _ c.requires.1.2).cell_in)
+bit-requires c = omega (arith, c.local-c.ensures.0, (legal _ _ c.requires.2).cell_in)
 
 pub player_bits-theirs-requires : goal.player_bits-theirs-requires
-player_bits-theirs-requires c = ((c.requires.1.0, c.requires.1.1), omega arith, omega (arith, c.global-b.ensures.0, (legal _ _ c.requires.1.2).board_in))
+player_bits-theirs-requires c = ((c.requires.0, c.requires.1), omega arith, omega (arith, c.global-b.ensures.0, (legal _ _ c.requires.2).board_in))
 
 pub bit-requires-2 : goal.bit-requires-2
-bit-requires-2 c = omega (arith, c.global-b.ensures.0, (legal _ _ c.requires.1.2).board_in)
+bit-requires-2 c = omega (arith, c.global-b.ensures.0, (legal _ _ c.requires.2).board_in)
 
 pub end_of_board-end-requires : goal.end_of_board-end-requires
 end_of_board-end-requires c = (
-  c.requires.0,
-  rw (c.player_bits.ensures.0, c.bit.ensures.0, c.global-b.ensures.0, c.local-c.ensures.0) (mine_small _ _ _ _ c.requires.1.1 c.requires.1.2 _ c.side_to_move-side.ensures.0),
+  rw (c.player_bits.ensures.0, c.bit.ensures.0, c.global-b.ensures.0, c.local-c.ensures.0) (mine_small _ _ _ _ c.requires.1 c.requires.2 _ c.side_to_move-side.ensures.0),
   c.player_bits-theirs.ensures.1,
 )
 
@@ -29,7 +28,7 @@ overflow_add-done c = omega (arith, c.end_of_board-end.ensures.2, c.bit-2.ensure
 
 pub overflow_add-done-2 : goal.overflow_add-done-2
 overflow_add-done-2 c =
-    let d = c.requires.1 in
+    let d = c.requires in
     omega (arith, c.end_of_board-end.ensures.2, c.bit-2.ensures.1, c.done_bits.ensures d.0 d.1, done_lt d.0.cells)
 
 pub overflow_add-result : goal.overflow_add-result
@@ -39,7 +38,7 @@ pub overflow_add-result-2 : goal.overflow_add-result-2
 overflow_add-result-2 c = omega (arith, c.end_of_board-end.ensures.2, c.bit-2.ensures.1, c.drawn_bits.ensures.1)
 
 pub target_after-requires : goal.target_after-requires
-target_after-requires c = omega (arith, c.local-c.ensures.0, (legal _ _ c.requires.1.2).cell_in)
+target_after-requires c = omega (arith, c.local-c.ensures.0, (legal _ _ c.requires.2).cell_in)
 
 pub returns : goal.returns
 returns c =
