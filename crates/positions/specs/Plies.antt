@@ -1,7 +1,6 @@
 -- Positions in places of 24 words: that words which agree hold the same position, and what a copy and a push leave. Rests on the rules and game's Words and Moves.
-use Rattle.std.specs.Prelude.{ℕ, ◌+◌, ◌*◌, ◌<◌, ◌≤◌, ◌≡◌, refl, List, length, get_or, set}
-use Rattle.std.proofs.Common.{◌∙◌, inl, arith, length-set, get_or-set_same, get_or-set_other}
-use Rattle.std.proofs.Math.Decide.{ℕ_discrete}
+use Rattle.std.specs.Prelude.{ℕ, ◌+◌, ◌*◌, ◌<◌, ◌≤◌, ◌≡◌, List, length, get_or}
+use Rattle.std.proofs.Common.{◌∙◌, inl, arith}
 use Rattle.rules.specs.Rules.{Position, move_error, play}
 use Rattle.rules.specs.Record.{side_bit}
 use Rattle.game.specs.Words.{Holds, side_bit_lt}
@@ -25,33 +24,6 @@ pub record Copied (d : ℕ) (ws vs : List ℕ) : Type 0 where
   pub long : length vs ≡ length ws
   pub below : (i : ℕ) → i < d * 24 + 24 → get_or vs i 0 ≡ get_or ws i 0
   pub copied : (i : ℕ) → i < 23 → get_or vs (d * 24 + 24 + i) 0 ≡ get_or ws (d * 24 + i) 0
-
--- the loop of a copy, from place a of the list src to place b of ws: k words are copied
-pub record Copying (src : List ℕ) (a : ℕ) (ws vs : List ℕ) (b k : ℕ) : Type 0 where
-  pub long : length vs ≡ length ws
-  pub below : (i : ℕ) → i < b → get_or vs i 0 ≡ get_or ws i 0
-  pub copied : (i : ℕ) → i < k → get_or vs (b + i) 0 ≡ get_or src (a + i) 0
-
-pub copying_start : (src : List ℕ) (a : ℕ) (ws : List ℕ) (b : ℕ) → Copying src a ws ws b 0
-copying_start src a ws b = record { long = refl; below = λ i l. refl; copied = λ i l. absurd (omega arith) }
-
-pub copying_step : (src : List ℕ) (a : ℕ) (ws vs : List ℕ) (b k x : ℕ) → Copying src a ws vs b k → b + k < length ws → x ≡ get_or src (a + k) 0
-    → Copying src a ws (set vs (b + k) x) b (k + 1)
-copying_step src a ws vs b k x c room e = record {
-  long = simp length-set c.long;
-  below = λ i l. get_or-set_other vs (b + k) i x 0 (λ q. omega arith) ∙ c.below i l;
-  copied = λ i l. go i l (ℕ_discrete i k);
-}
-  where
-    go : (i : ℕ) → i < k + 1 → Dec (i ≡ k) → get_or (set vs (b + k) x) (b + i) 0 ≡ get_or src (a + i) 0
-    go i l (yes q) = rw q (get_or-set_same vs (b + k) x 0 (omega (arith, c.long)) ∙ e)
-    go i l (no n) = get_or-set_other vs (b + k) (b + i) x 0 (λ q. n (omega arith)) ∙ c.copied i (omega arith)
-
-pub copied_ply : (ws vs : List ℕ) (d : ℕ) → Copying ws (d * 24) ws vs (d * 24 + 24) 24 → Copied d ws vs
-copied_ply ws vs d c = record { long = c.long; below = c.below; copied = λ i l. c.copied i (omega arith) }
-
-pub copied_root : (src ws vs : List ℕ) → Copying src 0 ws vs 0 23 → 23 ≤ length ws → (p : Position) → Holds p src 0 → Holds p vs 0
-copied_root src ws vs c room p h = holds_agree p src vs 0 0 (omega (arith, c.long)) c.copied h
 
 -- a legal move was made from ply d to the next: the position after it is there, and every ply before is untouched
 pub record Pushed (d m : ℕ) (ws vs : List ℕ) : Type 0 where

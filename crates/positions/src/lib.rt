@@ -4,7 +4,6 @@
 
 ghost use Rattle.std.specs.Prelude.{◌≡◌, ◌+◌, ◌*◌, ◌<◌, length};
 ghost use Rattle.rules.specs.Rules.{Position};
-ghost use Rattle.game.specs.Lines.{line_table};
 ghost use Rattle.game.specs.Words.{Holds};
 ghost use Rattle.game.specs.Moves.{Movable};
 ghost use Rattle.positions.specs.Plies.{Copied, Pushed};
@@ -30,19 +29,16 @@ fn copy_ply(positions: &mut [u16; POSITIONS], d: usize)
     requires { (length positions.old ≡ 1968) × (d < 81) }
     ensures { Copied d positions.old positions.new }
 {
-    let from = base(d);
-    for i in 0..PLY {
-        positions[from + PLY + i] = positions[from + i];
-    }
+    positions.copy_within(base(d)..base(d) + PLY, base(d) + PLY);
 }
 
 // The position at ply d with a legal move made, at the next ply.
-pub fn push(table: &[u8; 512], positions: &mut [u16; POSITIONS], d: usize, m: Move)
-    requires { (table.now ≡ line_table) × (length positions.old ≡ 1968) × (d < 81) × Movable positions.old (d * 24) m.0 }
+pub fn push(positions: &mut [u16; POSITIONS], d: usize, m: Move)
+    requires { (length positions.old ≡ 1968) × (d < 81) × Movable positions.old (d * 24) m.0 }
     ensures { Pushed d m.0 positions.old positions.new }
 {
     copy_ply(positions, d);
-    game::apply_move(table, positions, base(d) + PLY, m);
+    game::apply_move(positions, base(d) + PLY, m);
 }
 
 // The root's position at ply 0.
@@ -50,8 +46,5 @@ pub fn start(positions: &mut [u16; POSITIONS], g: Game)
     requires { length positions.old ≡ 1968 }
     ensures { (length positions.new ≡ 1968) × ((p : Position) → Holds p g.words 0 → Holds p positions.new 0) }
 {
-    let words = g.words;
-    for i in 0..23 {
-        positions[i] = words[i];
-    }
+    positions[..23].copy_from_slice(&g.words);
 }
