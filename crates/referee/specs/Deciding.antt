@@ -1,11 +1,11 @@
 -- A turn of the referee goes through the moves: what those gone through leave open, one more of them, and the end. One law for both sides: mine says
 -- whether the mover is the root's side, and it is the value that the mover wants. Rests on Turns, the machine's laws of value and evaluate's.
-use Rattle.std.specs.Prelude.{◌≡◌, refl, Bool, true, false, cond, ◌⊎◌, ℕ, ◌+◌, ◌-◌, ◌<◌, get_or}
+use Rattle.std.specs.Prelude.{◌≡◌, refl, Bool, true, cond, ◌⊎◌, ℕ, ◌+◌, ◌-◌, ◌<◌, get_or, Option, Some, None}
 use Rattle.std.proofs.Math.Path.{sym, ap}
 use Rattle.std.proofs.Common.{subst, ◌∙◌, arith}
 use Rattle.std.proofs.Math.Bool.{not}
 use mathlib.Core.List.Memᴰ
-use mathlib.Core.List.{List, Memᴰ}
+use mathlib.Core.List.{List, ◌∷◌, Memᴰ}
 use Rattle.std.proofs.Math.Logic.{inl, inr, ⊎_elim}
 use Rattle.rules.specs.Rules.{Position, same, game_state, legal_moves, move_error, play}
 use Rattle.rules.specs.Record.{Accepted, player_of}
@@ -18,10 +18,12 @@ use Rattle.machine.proofs.Value.{value_final, value_some, value_all}
 use Rattle.plain.specs.Plain.{game, value_of}
 use Rattle.plain.proofs.Laws.{lawful, root_mine}
 use Rattle.game.specs.Words.{Holds}
-use Rattle.game.specs.Cursor.{moves_from, moves_within}
+use Rattle.game.specs.Cursor.{moves_from, moves_within, Stepped, next_is, end_is}
+use Rattle.game.specs.Moves.{Movable, Moved}
+use Rattle.game.specs.declared.Move.{Move}
 use Rattle.evaluate.specs.Final.{position_verdict}
 use Rattle.evaluate.specs.Verdicts.{verdict_open, verdict_known}
-use Rattle.referee.specs.Turns.{Turn, empty_in, empty_is, Reply, Replied}
+use Rattle.referee.specs.Turns.{Turn, empty_in, empty_is}
 
 -- of a position in play, the moves from place at on are legal, and none of the others gives the mover what it wants
 pub record Open (rule root : ℕ) (mine : Bool) (p : Position) (at : ℕ) : Type 0 where
@@ -48,11 +50,10 @@ module _ (rule root : ℕ) (mine : Bool) (ws : List ℕ) where
       others = λ m i. inl (subst (Memᴰ m) (all t.position t.holds) i);
     }
 
-  -- one look for a reply
-  module _ (at : ℕ) (d : Deciding rule root mine ws at) (f : Bool) (ws' : List ℕ) (rest : ℕ)
-      (replied : (p : Position) → Holds p ws 0 → Replied p at f ws' rest) where
+  -- a step of the cursor, from place at to place rest
+  module _ (at : ℕ) (d : Deciding rule root mine ws at) (rest : ℕ) (s : Option Move) (stepped : (p : Position) → Holds p ws 0 → Stepped p at s rest) where
     -- no move is left
-    pub done : f ≡ false → (t : Turn ws root mine) → not mine ≡ value (game rule (player_of root)) t.position
+    pub done : s ≡ None → (t : Turn ws root mine) → not mine ≡ value (game rule (player_of root)) t.position
     done e t =
         let p = t.position in
         let r = unfinished_some p t.accepted (d t).unfinished in
@@ -61,66 +62,66 @@ module _ (rule root : ℕ) (mine : Bool) (ws : List ℕ) where
       where
         each : (m : ℕ) → Memᴰ m (moves_from t.position at) ⊎ (value (game rule (player_of root)) (play t.position m) ≡ not mine)
             → value (game rule (player_of root)) (play t.position m) ≡ not mine
-        each m (inl i) = absurd (Memᴰ.not-nil (subst (Memᴰ m) ((replied t.position t.holds).none e) i))
+        each m (inl i) = absurd (Memᴰ.not-nil (subst (Memᴰ m) (end_is ws 0 at rest s stepped e t.position t.holds) i))
         each m (inr q) = q
 
-    -- a reply is found
-    module _ (found : f ≡ true) where
-      reply : (t : Turn ws root mine) → Reply t.position at ws' rest
-      reply t = (replied t.position t.holds).reply found
+    -- the first is m, and the others are those from place rest on
+    module _ (move : Move) (found : s ≡ Some move) where
+      abbrev m : ℕ
+      m = move.0
 
-      module _ (t : Turn ws root mine) where
-        move : ℕ
-        move = (reply t).move
+      next : (p : Position) → Holds p ws 0 → (moves_from p at ≡ m ∷ moves_from p rest) × (at < rest)
+      next = next_is ws 0 at rest s stepped move found
 
-        is_legal : move_error t.position move ≡ 0
-        unfolding move
-        is_legal = (d t).legal move (subst (Memᴰ move) (sym (reply t).first) (Memᴰ.head refl))
+      is_legal : (t : Turn ws root mine) → move_error t.position m ≡ 0
+      is_legal t = (d t).legal m (subst (Memᴰ m) (sym (next t.position t.holds).0) (Memᴰ.head refl))
 
+      pub movable : Turn ws root mine → Movable ws 0 m
+      movable t = (t.position, t.holds, is_legal t)
+
+      pub less : Turn ws root mine → 81 - rest < 81 - at
+      less t = let n = next t.position t.holds in omega (arith, n.1, moves_within t.position at m _ n.0)
+
+      -- it is made
+      module _ (ws' : List ℕ) (made : (p : Position) → Holds p ws 0 → move_error p m ≡ 0 → Moved p m 0 ws ws') where
         -- the other side's turn, with one empty cell less
-        pub next_turn : Turn ws' root (not mine)
-        unfolding move
-        next_turn = record {
-          position = play t.position move;
-          holds = (reply t).holds is_legal;
-          accepted = keeps_accepted t.position move is_legal t.accepted;
-          turn = (lawful rule (player_of root)).turns t.position move (legal_in t.position move is_legal) ∙ ap not t.turn;
+        pub next_turn : Turn ws root mine → Turn ws' root (not mine)
+        next_turn t = record {
+          position = play t.position m;
+          holds = (made t.position t.holds (is_legal t)).holds;
+          accepted = keeps_accepted t.position m (is_legal t) t.accepted;
+          turn = (lawful rule (player_of root)).turns t.position m (legal_in t.position m (is_legal t)) ∙ ap not t.turn;
         }
 
-        pub fewer : empty_in ws' < empty_in ws
-        unfolding move
-        fewer =
-            let q = play t.position move in
-            omega (arith, empty_is t.position ws t.holds, empty_is q ws' ((reply t).holds is_legal), one_less t.position move is_legal)
+        pub fewer : Turn ws root mine → empty_in ws' < empty_in ws
+        fewer t =
+            let after = made t.position t.holds (is_legal t) in
+            omega (arith, empty_is t.position ws t.holds, empty_is (play t.position m) ws' after.holds, one_less t.position m (is_legal t))
 
-        pub less : 81 - rest < 81 - at
-        less = let r = reply t in omega (arith, r.ahead, moves_within t.position at r.move _ r.first)
+        -- the other side's turn is answered
+        module _ (v : Bool) (answer : (t : Turn ws' root (not mine)) → v ≡ value (game rule (player_of root)) t.position) where
+          reached : (t : Turn ws root mine) → value (game rule (player_of root)) (play t.position m) ≡ v
+          unfolding next_turn
+          reached t = sym (answer (next_turn t))
 
-      -- the other side's turn is answered
-      module _ (v : Bool) (answer : (t : Turn ws' root (not mine)) → v ≡ value (game rule (player_of root)) t.position) where
-        reached : (t : Turn ws root mine) → value (game rule (player_of root)) (play t.position (move t)) ≡ v
-        unfolding next_turn
-        reached t = sym (answer (next_turn t))
+          pub decided : v ≡ mine → (t : Turn ws root mine) → mine ≡ value (game rule (player_of root)) t.position
+          decided e t =
+              let i = legal_in t.position m (is_legal t) in
+              sym (value_some (game rule (player_of root)) (lawful rule (player_of root)) t.position m i (reached t ∙ e ∙ sym t.turn) ∙ t.turn)
 
-        pub decided : v ≡ mine → (t : Turn ws root mine) → mine ≡ value (game rule (player_of root)) t.position
-        decided e t =
-            let i = legal_in t.position (move t) (is_legal t) in
-            sym (value_some (game rule (player_of root)) (lawful rule (player_of root)) t.position (move t) i (reached t ∙ e ∙ sym t.turn) ∙ t.turn)
+          -- a move that was left is m, or is still left
+          split : v ≡ not mine → (t : Turn ws root mine) (x : ℕ) → Memᴰ x (moves_from t.position at)
+              → Memᴰ x (moves_from t.position rest) ⊎ (value (game rule (player_of root)) (play t.position x) ≡ not mine)
+          split e t x i =
+              ⊎_elim (λ q. inr (ap (λ y. value (game rule (player_of root)) (play t.position y)) q ∙ reached t ∙ e)) inl
+              (Memᴰ.cases_cons (subst (Memᴰ x) (next t.position t.holds).0 i))
 
-        -- a move that was left is the reply, or is still left
-        split : v ≡ not mine → (t : Turn ws root mine) (m : ℕ) → Memᴰ m (moves_from t.position at)
-            → Memᴰ m (moves_from t.position rest) ⊎ (value (game rule (player_of root)) (play t.position m) ≡ not mine)
-        unfolding move
-        split e t m i =
-            ⊎_elim (λ q. inr (ap (λ x. value (game rule (player_of root)) (play t.position x)) q ∙ reached t ∙ e)) inl
-            (Memᴰ.cases_cons (subst (Memᴰ m) (reply t).first i))
-
-        pub step : v ≡ not mine → Deciding rule root mine ws rest
-        step e t = record {
-          unfinished = (d t).unfinished;
-          legal = λ m i. (d t).legal m (subst (Memᴰ m) (sym (reply t).first) (Memᴰ.tail i));
-          others = λ m i. ⊎_elim (split e t m) inr ((d t).others m i);
-        }
+          pub step : v ≡ not mine → Deciding rule root mine ws rest
+          step e t = record {
+            unfinished = (d t).unfinished;
+            legal = λ x i. (d t).legal x (subst (Memᴰ x) (sym (next t.position t.holds).0) (Memᴰ.tail i));
+            others = λ x i. ⊎_elim (split e t x) inr ((d t).others x i);
+          }
 
 -- at the root it is the attacker's turn
 module _ (p : Position) (ws : List ℕ) (side : ℕ) (is_side : side ≡ get_or ws (0 + 22) 0) (h : Holds p ws 0) (a : Accepted p) where

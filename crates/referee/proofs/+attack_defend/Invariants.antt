@@ -10,14 +10,14 @@ decreases-attack l = empty_in l.pos.words
 abbrev pub decreases-defend : goal.decreases-defend
 decreases-defend l = empty_in l.pos.words
 
-abbrev pub invariant-attack-loop-pos : goal.invariant-attack-loop-pos
-invariant-attack-loop-pos l = Deciding l.rule l.attacker true l.pos.words l.cursor.at
+abbrev pub invariant-attack-loop-m : goal.invariant-attack-loop-m
+invariant-attack-loop-m l = Deciding l.rule l.attacker true l.pos.words l.moves.at
 
-abbrev pub decreases-attack-loop-pos : goal.decreases-attack-loop-pos
-decreases-attack-loop-pos l = 81 - l.cursor.at
+abbrev pub decreases-attack-loop-m : goal.decreases-attack-loop-m
+decreases-attack-loop-m l = 81 - l.moves.at
 
-abbrev pub invariant-defend-loop-pos : goal.invariant-defend-loop-pos
-invariant-defend-loop-pos l = Deciding l.rule l.attacker false l.pos.words l.cursor.at
+abbrev pub invariant-defend-loop-m : goal.invariant-defend-loop-m
+invariant-defend-loop-m l = Deciding l.rule l.attacker false l.pos.words l.moves.at
 
-abbrev pub decreases-defend-loop-pos : goal.decreases-defend-loop-pos
-decreases-defend-loop-pos l = 81 - l.cursor.at
+abbrev pub decreases-defend-loop-m : goal.decreases-defend-loop-m
+decreases-defend-loop-m l = 81 - l.moves.at

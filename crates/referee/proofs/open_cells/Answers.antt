@@ -1,16 +1,22 @@
--- `referee::open_cells` meets its contract: the cells counted and those from the place on are all; the measure is what is left of the 81. Assumes nothing.
-use Rattle.std.proofs.Common.{arith}
-use Rattle.referee.specs.Counting.{start, step, done}
+-- `referee::open_cells` meets its contract: the cells counted and those from the place on are all. Assumes nothing.
+use Rattle.std.proofs.Common.{◌<◌, arith}
+use Rattle.referee.specs.Counting.{start, counts, passes, done}
 use Rattle.referee.proofs.open_cells.Goals as goal
+use Rattle.referee.proofs.open_cells.Goals.{then-is_open, else-is_open}
 
 pub loop-i-init : goal.loop-i-init
 loop-i-init c = start _ _
 
 pub overflow_add-n : goal.overflow_add-n
-overflow_add-n c = omega (arith, (step _ _ _ _ c.loop-i.invariant _ (omega (arith, c.loop-i-test.true)) c.requires c.open_cell-n.ensures).few, c.loop-i-test.true)
+overflow_add-n c = omega (arith, c.loop-i.invariant.few, c.loop-i-test.true)
 
 pub loop-i-preserved : goal.loop-i-preserved
-loop-i-preserved c = step _ _ _ _ c.loop-i.invariant _ (omega (arith, c.loop-i-test.true)) c.requires c.open_cell-n.ensures
+loop-i-preserved c =
+    let place : c.loop-i.i < 81 = omega (arith, c.loop-i-test.true) in
+    elim c.if-is_open.branch [
+      | then-is_open w ↦ rw w.n-is (counts _ _ _ _ c.loop-i.invariant _ c.is_open.ensures place w.if-is_open.true)
+      | else-is_open w ↦ rw w.n-is (passes _ _ _ _ c.loop-i.invariant _ c.is_open.ensures place w.if-is_open.false)
+    ]
 
 pub returns : goal.returns
 returns c = done _ _ _ _ c.loop-i.invariant c.loop-i-test.false

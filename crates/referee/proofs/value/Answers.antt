@@ -3,7 +3,7 @@ use Rattle.referee.specs.Deciding.{root_turn, root_value}
 use Rattle.referee.proofs.value.Goals as goal
 
 pub attack-requires : goal.attack-requires
-attack-requires c = (c.requires.0, root_turn c.requires.1.0 _ _ c.side_to_move.ensures.0 c.requires.1.1 c.requires.1.2)
+attack-requires c = root_turn c.requires.0 _ _ c.side_to_move.ensures.0 c.requires.1 c.requires.2
 
 pub returns : goal.returns
 returns c p h a = root_value p _ _ c.side_to_move.ensures.0 h a _ _ c.attack.ensures
