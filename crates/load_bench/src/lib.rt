@@ -2,15 +2,15 @@
 
 #![tactic(auto)]
 
-ghost use Rattle.std.specs.Prelude.{◌≡◌, ◌<◌, ◌≤◌, length, replicate};
+ghost use Rattle.std.specs.Prelude.{◌≡◌, ◌<◌, ◌≤◌, IfOk, length, replicate};
 ghost use Rattle.rules.specs.Record.{position_of, refusal_to6, refusal};
+ghost use Rattle.refusals.specs.Numbers.{refusal_code};
 ghost use Rattle.game.specs.Words.{Holds};
 ghost use Rattle.cells.specs.Reading.{BoardsRead};
 
-use record::Loaded;
-
-// A record's length in bytes.
-const RECORD_LENGTH: usize = 21;
+use game::Game;
+use record::RECORD_LENGTH;
+use refusals::Refusal;
 
 // Its last bit, which is 0.
 const LAST_BIT: usize = 167;
@@ -27,8 +27,10 @@ pub struct BenchCells {
 fn no_cells() -> BenchCells
     ensures { (result.words ≡ replicate 23 0) × (result.rest ≡ 0) }
 {
-    let words = [0u16; 23];
-    BenchCells { words, rest: 0 }
+    BenchCells {
+        words: [0; 23],
+        rest: 0,
+    }
 }
 
 // The cells, from the record's three words.
@@ -40,9 +42,8 @@ pub fn bench_cells_from_words(bytes: &[u8]) -> BenchCells
         return no_cells();
     }
     let read = cells::from_words(cells::record_words(bytes));
-    let words = read.words;
     BenchCells {
-        words,
+        words: read.words,
         rest: read.rest,
     }
 }
@@ -56,22 +57,22 @@ pub fn bench_cells_bit_by_bit(bytes: &[u8]) -> BenchCells
         return no_cells();
     }
     let read = cells::bits::cells(bytes);
-    let words = read.words;
     BenchCells {
-        words,
+        words: read.words,
         rest: read.rest,
     }
 }
 
 // Checks 1 to 6 and the position's words, as `record::load_to_6` but for the reading, which is bit by bit.
-fn load_bit_by_bit_to_6(bytes: &[u8]) -> Loaded
-    ensures { (result.code ≡ refusal_to6 bytes.now) × (result.code ≡ 0 → Holds (position_of bytes.now) result.game.words 0) }
+fn load_bit_by_bit_to_6(bytes: &[u8]) -> Result<Game, Refusal>
+    ensures code { refusal_code result ≡ refusal_to6 bytes.now }
+    ensures position { IfOk result (λ g. Holds (position_of bytes.now) g.words 0) }
 {
     if bytes.len() != RECORD_LENGTH {
-        return record::refused(1);
+        return Err(Refusal::Length);
     }
     if cells::bits::bit_at(bytes, LAST_BIT) != 0 {
-        return record::refused(2);
+        return Err(Refusal::Codes);
     }
     let target = cells::bits::number_at(bytes, 1, 4);
     let side = cells::bits::bit_at(bytes, 0);
@@ -79,10 +80,13 @@ fn load_bit_by_bit_to_6(bytes: &[u8]) -> Loaded
 }
 
 // A whole load, as `record::load`.
-fn load_bit_by_bit(bytes: &[u8]) -> Loaded
-    ensures { (result.code ≡ refusal bytes.now) × (result.code ≡ 0 → Holds (position_of bytes.now) result.game.words 0) }
+fn load_bit_by_bit(bytes: &[u8]) -> Result<Game, Refusal>
+    ensures code { refusal_code result ≡ refusal bytes.now }
+    ensures position { IfOk result (λ g. Holds (position_of bytes.now) g.words 0) }
 {
-    record::check_choice(load_bit_by_bit_to_6(bytes))
+    let game = load_bit_by_bit_to_6(bytes)?;
+    record::check_choice(&game)?;
+    Ok(game)
 }
 
 // A load as C has it: 0 and the position's words, or the number of the check that refuses the record.
@@ -93,26 +97,31 @@ pub struct BenchLoaded {
     pub words: [u16; 23],
 }
 
+// A load, as C has it.
+fn bench_loaded(loaded: Result<Game, Refusal>) -> BenchLoaded
+    ensures code { result.code ≡ refusal_code loaded }
+    ensures words { IfOk loaded (λ g. result.words ≡ g.words) }
+{
+    match loaded {
+        Ok(game) => BenchLoaded {
+            code: 0,
+            words: game.words,
+        },
+        Err(refusal) => BenchLoaded {
+            code: refusal.number() as u32,
+            words: [0; 23],
+        },
+    }
+}
+
 pub fn bench_load(bytes: &[u8]) -> BenchLoaded
     ensures { (result.code ≡ refusal bytes.now) × (result.code ≡ 0 → Holds (position_of bytes.now) result.words 0) }
 {
-    let loaded = record::load(bytes);
-    let game = loaded.game;
-    let words = game.words;
-    BenchLoaded {
-        code: loaded.code as u32,
-        words,
-    }
+    bench_loaded(record::load(bytes))
 }
 
 pub fn bench_load_bit_by_bit(bytes: &[u8]) -> BenchLoaded
     ensures { (result.code ≡ refusal bytes.now) × (result.code ≡ 0 → Holds (position_of bytes.now) result.words 0) }
 {
-    let loaded = load_bit_by_bit(bytes);
-    let game = loaded.game;
-    let words = game.words;
-    BenchLoaded {
-        code: loaded.code as u32,
-        words,
-    }
+    bench_loaded(load_bit_by_bit(bytes))
 }

@@ -2,8 +2,8 @@
 use Rattle.std.specs.Prelude.{◌≡◌, refl, Bool, true, false, cond, not, ◌&&◌, ◌||◌, ℕ, ◌+◌, ◌<◌, ◌≤◌, eqb, ltb}
 use Rattle.std.proofs.Math.Path.{sym}
 use Rattle.std.proofs.Common.{◌∙◌, add-zero, add-one, arith}
-use mathlib.Core.List.{List, [], ◌∷◌, ◌++◌}
-use borrow.Author.Tests.{ne_eqb, ltb-true}
+use mathlib.Core.List.{List, [], ◌∷◌}
+use borrow.Author.Tests.{ltb-true}
 use Rattle.rules.specs.Rules.{Player, mark, code, count, has_line, board_states}
 use Rattle.rules.specs.Rules.Player.{X, O}
 use Rattle.rules.specs.Record.{side_bit, fair_turn, both_lines, position_refusal}
@@ -12,7 +12,7 @@ use Rattle.rules.proofs.Boards.{length_states}
 use Rattle.game.specs.Masks.{has_bit, has_bit_of, nonzero}
 use Rattle.game.specs.Lines.{line_in}
 use Rattle.record.specs.declared.Boards.{Boards}
-use Rattle.record.specs.Reading.{Whole, Checking, target_refusal, side_mask}
+use Rattle.record.specs.Reading.{Whole, Checking, side_mask}
 use Rattle.record.specs.Marks.{whole_lt, x_line, o_line, done_mask}
 use Rattle.record.specs.Counted.{count_le}
 
@@ -35,16 +35,10 @@ own_line O cs = go (has_line 1 cs) (has_line 2 cs)
     go true false = refl
     go false b = refl
 
--- The target's checks, 2 and 6, made at once: l for a target below 9, e for 15, h and n for a done board; ms are the checks between them, ns those after.
-order : (l e h n : Bool) (ms ns : List ℕ) → (l ≡ true → n ≡ h)
-    → let target : ℕ = cond l (refuses 6 h) (refuses 2 (not e)) in
-    first_refusal (refuses 2 (not (l || e)) ∷ (ms ++ (refuses 6 (l && n) ∷ ns)))
-    ≡ first_refusal (refuses 2 (eqb target 2) ∷ (ms ++ (target ∷ ns)))
-unfolding first_refusal
-order true e true n ms ns i = rw (i refl)
-order true e false n ms ns i = rw (i refl)
-order false true h n ms ns i = refl
-order false false h n ms ns i = refl
+-- A second test that is asked only where the first one passes may be replaced by one that agrees there.
+and_when : (l n h : Bool) → (l ≡ true → n ≡ h) → (l && n) ≡ (l && h)
+and_when true n h i = i refl
+and_when false n h i = refl
 
 module _ (r : Boards) (t s : ℕ) (g : Checking r t s) where
   -- the states of the nine boards
@@ -70,27 +64,20 @@ module _ (r : Boards) (t s : ℕ) (g : Checking r t s) where
   unfolding states
   done h = rw (done_mask r.states states) (sym (has_bit_of nonzero (board_states g.position.cells) t (omega (arith, length_states g.position.cells))))
 
-  -- Checks 3 to 5 in the code's terms.
-  abbrev pub middle : List ℕ
-  middle = refuses 3 (not (eqb r.xs (r.os + s))) ∷ refuses 4 r.both ∷ refuses 5 (line_in (side_mask r.states s)) ∷ []
+  done_law : (ltb t 9 && not (eqb (code (board_states g.position.cells) t) 0)) ≡ (ltb t 9 && has_bit done_bits t)
+  done_law = and_when (ltb t 9) _ _ (λ e. done (ltb-true t 9 e))
 
-  -- Checks 2 to 6 in the code's terms.
-  check_law : position_refusal g.position
-      ≡ first_refusal (refuses 2 (eqb (target_refusal t done_bits) 2) ∷ (middle ++ (target_refusal t done_bits ∷ [])))
+  -- checks 3 to 6 in the code's terms
+  abbrev pub later : List ℕ
+  later =
+      refuses 3 (not (eqb r.xs (r.os + s))) ∷ refuses 4 r.both ∷ refuses 5 (line_in (side_mask r.states s)) ∷ refuses 6 (ltb t 9 && has_bit done_bits t) ∷ []
+
+  -- checks 2 to 6 in the code's terms
+  pub check_law : position_refusal g.position ≡ first_refusal (refuses 2 (not (ltb t 9 || eqb t 15)) ∷ later)
   unfolding position_refusal
   check_law =
-      rw (g.coded, turn, sym g.shows.both, own_line g.position.side (board_states g.position.cells) ∙ won g.position.side g.moves, ← g.aims)
-      (order (ltb t 9) (eqb t 15) (has_bit done_bits t) (not (eqb (code (board_states g.position.cells) t) 0)) middle [] (λ e. done (ltb-true t 9 e)))
-
-  -- check 2 of the target, n being what was said of it
-  pub target_law : (n : ℕ) → n ≡ target_refusal t done_bits → n ≡ 2 → n ≡ position_refusal g.position
-  unfolding first_refusal
-  target_law n e q = q ∙ sym (check_law ∙ rw (← e, q))
-
-  -- the rest of them once check 2 has passed, n being what was said of the target
-  pub coded_law : (n : ℕ) → n ≡ target_refusal t done_bits → (n ≡ 2 → ⊥) → position_refusal g.position ≡ first_refusal (middle ++ (n ∷ []))
-  unfolding first_refusal
-  coded_law n e q = check_law ∙ rw (← e, ne_eqb n 2 q)
+      rw (g.coded, turn, sym g.shows.both, own_line g.position.side (board_states g.position.cells) ∙ won g.position.side g.moves, ← g.aims, done_law)
+      refl
 
   -- what the code adds up fits, and the mask of a side is nine bits
   pub own_lt : side_mask r.states s < 512

@@ -1,9 +1,7 @@
 -- What the code keeps of a record that is checked: the boards so far, how many cells each side has, and what was read. Rests on the rules and the reading of cells.
-use Rattle.std.specs.Prelude.{◌≡◌, true, cond, not, List, ℕ, ◌*◌, ◌<◌, eqb, ltb, length}
+use Rattle.std.specs.Prelude.{◌≡◌, true, cond, List, ℕ, ◌*◌, ◌<◌, eqb, ltb, length}
 use Rattle.rules.specs.Rules.{Player, Position, answers, all, any, count, state, board}
 use Rattle.rules.specs.Record.{side_bit, both_lines}
-use Rattle.rules.specs.Refusals.{refuses}
-use Rattle.game.specs.Masks.{has_bit}
 use Rattle.cells.specs.declared.Codes.{Codes}
 use Rattle.cells.specs.declared.Cells.{Cells}
 use Rattle.cells.specs.Reading.{Masks, BoardsRead, CellsRead}
@@ -40,10 +38,6 @@ pub record Counting (ws : List ℕ) (i : ℕ) : Type 0 where
   pub side : Player
   pub place : i ≡ side_bit side * 9
   pub coded : Coded ws
-
--- What checks 2 and 6 say of a target, the done boards being the bits of a mask.
-abbrev pub target_refusal : ℕ → ℕ → ℕ
-target_refusal t done = cond (ltb t 9) (refuses 6 (has_bit done t)) (refuses 2 (not (eqb t 15)))
 
 -- The mask of a side's code.
 abbrev pub side_mask : Codes → ℕ → ℕ

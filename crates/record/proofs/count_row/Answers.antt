@@ -5,24 +5,24 @@ use Rattle.record.proofs.count_row.Goals as goal
 
 pub overflow_mul-result : goal.overflow_mul-result
 overflow_mul-result c =
-    omega (arith, c.wide-2.ensures, c.requires.1 1 (omega arith), c.requires.1 2 (omega arith))
+    omega (arith, c.requires.1 1 (omega arith), c.requires.1 2 (omega arith))
 
 pub overflow_add-result : goal.overflow_add-result
 overflow_add-result c =
     let first = first_small c.args.words.now c.args.i c.requires.1 in
-    omega (arith, c.wide.ensures, c.wide-2.ensures, first, c.requires.1 1 (omega arith), c.requires.1 2 (omega arith))
+    omega (arith, first, c.requires.1 1 (omega arith), c.requires.1 2 (omega arith))
 
 pub overflow_mul-result-2 : goal.overflow_mul-result-2
 overflow_mul-result-2 c =
-    omega (arith, c.wide-3.ensures, c.requires.1 1 (omega arith), c.requires.1 2 (omega arith))
+    omega (arith, c.requires.1 1 (omega arith), c.requires.1 2 (omega arith))
 
 pub overflow_add-result-2 : goal.overflow_add-result-2
 overflow_add-result-2 c =
     let first = first_small c.args.words.now c.args.i c.requires.1 in
-    omega (arith, c.wide.ensures, c.wide-2.ensures, c.wide-3.ensures, first, c.requires.1 1 (omega arith), c.requires.1 2 (omega arith))
+    omega (arith, first, c.requires.1 1 (omega arith), c.requires.1 2 (omega arith))
 
 pub returns : goal.returns
 returns c =
     let law = row_ones c.args.words.now c.args.i c.requires.1 in
     let few = row_few c.args.words.now c.args.i c.requires.1 in
-    (rw (c.wide.ensures, c.wide-2.ensures, c.wide-3.ensures) law, rw (c.wide.ensures, c.wide-2.ensures, c.wide-3.ensures, law) few)
+    (law, rw law few)

@@ -1,13 +1,19 @@
 -- `record::load` meets its contract: checks 1 to 6, and 22 after them. Assumes nothing.
-use mathlib.Core.Path.{◌∙◌}
-use Rattle.rules.specs.Record.{position_of, refusal}
+use Rattle.std.proofs.lemmas.Result.{err_from_is_err_and}
+use Rattle.rules.specs.Record.{position_of}
+use Rattle.refusals.proofs.Passes.{number_positive}
+use Rattle.record.specs.Loading.{refused_to6, refused_choice}
 use Rattle.record.proofs.load.Goals as goal
 
-pub check_choice-requires : goal.check_choice-requires
-check_choice-requires c = λ z. (position_of _, c.load_to_6.ensures.1 z)
+pub returns-in_err-game-clause-code : goal.returns-in_err-game-clause-code
+returns-in_err-game-clause-code c =
+    let p = err_from_is_err_and c.from_residual.result c.from_residual.ensures.1 in
+    rw (p.1, p.2) (refused_to6 _ _ (number_positive _) c.in_err-game.ensures.code)
 
-pub returns : goal.returns
-unfolding refusal
-returns c =
-    let r = c.check_choice.ensures (position_of _) c.load_to_6.ensures.1 in
-    (r.0 ∙ rw c.load_to_6.ensures.0, r.1)
+pub returns-in_err-check_choice-clause-code : goal.returns-in_err-check_choice-clause-code
+returns-in_err-check_choice-clause-code c =
+    let p = err_from_is_err_and c.from_residual-in_err-check_choice.result c.from_residual-in_err-check_choice.ensures.1 in
+    rw (p.1, p.2) (refused_choice _ _ c.in_ok-game.ensures.code (c.in_err-check_choice.ensures (position_of _) c.in_ok-game.ensures.position))
+
+pub returns-clause-code : goal.returns-clause-code
+returns-clause-code c = refused_choice _ 0 c.in_ok-game.ensures.code (c.in_ok-check_choice.ensures (position_of _) c.in_ok-game.ensures.position)

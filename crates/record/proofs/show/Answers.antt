@@ -9,7 +9,7 @@ loop-b-init c = (omega arith, λ g. nothing_shown g.cells)
 
 pub add-shown-requires : goal.add-shown-requires
 add-shown-requires c =
-    (c.requires.1, record { place = c.loop-b-test.true; cells = c.requires.0.cells; whole = c.requires.0.whole; shows = c.loop-b.invariant.1 c.requires.0; board_masks = board_coded _ c.requires.0 _ c.loop-b-test.true })
+    (record { place = c.loop-b-test.true; cells = c.requires.cells; whole = c.requires.whole; shows = c.loop-b.invariant.1 c.requires; board_masks = board_coded _ c.requires _ c.loop-b-test.true })
 
 pub loop-b-smaller : goal.loop-b-smaller
 loop-b-smaller c = omega (arith, c.loop-b-test.true)
