@@ -2,9 +2,10 @@
 
 #![tactic(auto)]
 
-ghost use Rattle.std.specs.Prelude.{◌≡◌, ◌||◌, ◌+◌, min, eqb};
+ghost use Rattle.std.specs.Prelude.{◌≡◌, ◌||◌, ◌+◌, cond, min, eqb};
+ghost use Rattle.machine.specs.Machine.{True, False};
 ghost use Rattle.machine.specs.Tree.{u32_max, INFINITY as infinity};
-ghost use Rattle.prove.specs.Numbers.{number, Pair};
+ghost use Rattle.prove.specs.Numbers.{number, verdict, Pair};
 
 // From here upward a number stands for infinity.
 pub const INFINITY: u32 = 2147483648;
@@ -29,6 +30,19 @@ impl Evaluation {
             Evaluation::Unknown => 0,
             Evaluation::True => 1,
             Evaluation::False => 2,
+        }
+    }
+}
+
+// A value that is known.
+impl From<bool> for Evaluation {
+    ghost from_gives = { λ value e. verdict e ≡ cond value True False };
+
+    fn from(value: bool) -> Self {
+        if value {
+            Evaluation::True
+        } else {
+            Evaluation::False
         }
     }
 }

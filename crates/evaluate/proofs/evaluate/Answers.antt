@@ -19,7 +19,7 @@ unfolding state_verdict
 returns-in-InPlay c = rw c.in-InPlay.is
 
 pub returns-in-Drawn : goal.returns-in-Drawn
-returns-in-Drawn c = rw (c.in-Drawn.is, drawn_verdict) (c.known.ensures ∙ ap (λ t. cond t True False) c.drawn_value.ensures)
+returns-in-Drawn c = rw (c.in-Drawn.is, drawn_verdict) (c.from.ensures ∙ ap (λ t. cond t True False) c.drawn_value.ensures)
 
 winner : (s : Player) → state_number (Won s) ≡ mark (player_of (player_number s))
 winner X = refl
@@ -30,4 +30,4 @@ won : (rule : ℕ) (root side : rules.Player) (g : GameState) (s : Player) (n : 
 won rule root side g s n e q = rw (e, q) (sym (ap (state_verdict rule root side) (winner s) ∙ won_verdict rule root side (player_of (player_number s))))
 
 pub returns-in-Won : goal.returns-in-Won
-returns-in-Won c = c.known-in-Won.ensures ∙ ap (λ t. cond t True False) c.same_side.ensures ∙ won _ _ _ _ _ _ c.in-Won.is c.as_bit.ensures
+returns-in-Won c = c.from-in-Won.ensures ∙ ap (λ t. cond t True False) c.same_side.ensures ∙ won _ _ _ _ _ _ c.in-Won.is c.as_bit.ensures
