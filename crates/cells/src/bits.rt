@@ -1,4 +1,4 @@
-// A record read bit by bit: what the reading by words is held to and timed against.
+// A record read bit by bit: what the reading by words is held to and timed against. Rests on the rules' record.
 
 ghost use Rattle.std.specs.Prelude.{◌≡◌, ◌+◌, ◌≤◌, ◌<◌, length};
 ghost use Rattle.rules.specs.Rules.{board};
@@ -7,7 +7,10 @@ ghost use Rattle.cells.specs.Reading.{Masks, CellsRead};
 
 use super::{Cells, Codes};
 
+// That the bytes are 21 or more stays a clause of each function: an array's type would ask more of a caller with a longer slice.
+
 // Bit o of the bytes, the most significant of each first.
+#[tactic(auto, unfolding(rules::specs::Record::bit_at))]
 pub fn bit_at(bytes: &[u8], o: usize) -> u8
     requires { (21 ≤ length bytes.now) × (o < 168) }
     ensures { result ≡ bit_at bytes.now o }
@@ -48,13 +51,5 @@ pub fn cells(bytes: &[u8]) -> Cells
     requires { 21 ≤ length bytes.now }
     ensures { CellsRead (position_of bytes.now).cells result }
 {
-    let mut words = [0u16; 23];
-    let mut rest: u16 = 0;
-    for b in 0..9 {
-        let codes = board_cells(bytes, b);
-        words[b] = codes.x;
-        words[9 + b] = codes.o;
-        rest = rest | codes.rest;
-    }
-    Cells { words, rest }
+    super::nine_boards(|b| board_cells(bytes, b))
 }

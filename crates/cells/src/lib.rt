@@ -7,6 +7,7 @@ ghost use Rattle.rules.specs.Rules.{answers, board};
 ghost use Rattle.cells.specs.RecordWords.{together, words_of, cell_held};
 ghost use Rattle.cells.specs.BoardBits.{code_in};
 ghost use Rattle.cells.specs.Triples.{triple_table, packed};
+ghost use Rattle.cells.specs.declared.Codes.{Codes};
 ghost use Rattle.cells.specs.Reading.{Masks, Putting, CellsRead};
 
 pub mod bits;
@@ -25,51 +26,29 @@ pub fn put(codes: Codes, c: usize, code: u8) -> Codes
     requires { Putting codes c × (code < 4) }
     ensures { (g : Putting codes c) → Masks (g.codes ++ (code ∷ List.[])) result }
 {
-    let x = codes.x;
-    let o = codes.o;
-    let rest = codes.rest;
     match code {
         0 => codes,
         1 => Codes {
-            x: x + game::bit(c),
-            o,
-            rest,
+            x: codes.x + game::bit(c),
+            ..codes
         },
         2 => Codes {
-            x,
-            o: o + game::bit(c),
-            rest,
+            o: codes.o + game::bit(c),
+            ..codes
         },
         _ => Codes {
-            x,
-            o,
-            rest: rest + game::bit(c),
+            rest: codes.rest + game::bit(c),
+            ..codes
         },
     }
 }
 
-// Two bytes from byte k on, the most significant first.
-fn two_at(bytes: &[u8], k: usize) -> u64
-    requires { k + 2 ≤ length bytes.now }
-    ensures { (result ≡ together bytes.now k 2) × (result < 65536) }
-{
-    bytes[k] as u64 * 256 + bytes[k + 1] as u64
-}
-
-// Four bytes from byte k on.
-fn four_at(bytes: &[u8], k: usize) -> u64
-    requires { k + 4 ≤ length bytes.now }
-    ensures { (result ≡ together bytes.now k 4) × (result < 4294967296) }
-{
-    two_at(bytes, k) * 65536 + two_at(bytes, k + 2)
-}
-
-// A word: the eight bytes from byte k on.
+// A word: the eight bytes from byte k on, the most significant first.
 fn word_at(bytes: &[u8], k: usize) -> u64
     requires { k + 8 ≤ length bytes.now }
     ensures { result ≡ together bytes.now k 8 }
 {
-    four_at(bytes, k) * 4294967296 + four_at(bytes, k + 4)
+    u64::from_be_bytes(*bytes[k..].first_chunk().unwrap())
 }
 
 // A record's three words: those that begin at bytes 0, 8 and 13.
@@ -80,6 +59,7 @@ pub struct RecordWords {
     pub third: u64,
 }
 
+#[tactic(auto, unfolding(crate::specs::RecordWords::words_of))]
 pub fn record_words(bytes: &[u8]) -> RecordWords
     requires { 21 ≤ length bytes.now }
     ensures { result ≡ words_of bytes.now }
@@ -108,28 +88,27 @@ fn board_bits(w: RecordWords, b: usize) -> u64
     (w.third >> (145 - 18 * b)) % 262144
 }
 
-// The masks of three codes, by their six bits.
-fn triple_table() -> [u32; 64]
-    ensures { result ≡ triple_table }
+// The masks of three codes, by their six bits: lent, since a constant table is put on the stack by each function that uses it.
+fn triple_table() -> &'static [u32; 64]
+    ensures { result.now ≡ triple_table }
 {
-    table::TRIPLES
+    &table::TRIPLES
 }
 
-fn triple(triples: &[u32; 64], n: u64) -> u32
-    requires { (triples.now ≡ triple_table) × (n < 64) }
+#[tactic(auto, using(crate::proofs::Triples::triple_at, crate::proofs::Triples::packed_lt))]
+fn triple(n: u64) -> u32
+    requires { n < 64 }
     ensures { (result ≡ packed n) × (result < 2097152) }
 {
-    triples[n as usize]
+    triple_table()[n as usize]
 }
 
 // The masks of a board's nine codes, from its 18 bits.
-fn codes_of(triples: &[u32; 64], v: u64) -> Codes
-    requires { (triples.now ≡ triple_table) × (v < 262144) }
+fn codes_of(v: u64) -> Codes
+    requires { v < 262144 }
     ensures { Masks (answers (code_in v) 0 9) result }
 {
-    let p = triple(triples, v / 4096)
-        + triple(triples, v / 64 % 64) * 8
-        + triple(triples, v % 64) * 64;
+    let p = triple(v / 4096) + triple(v / 64 % 64) * 8 + triple(v % 64) * 64;
     Codes {
         x: (p % 512) as u16,
         o: (p / 512 % 512) as u16,
@@ -138,11 +117,11 @@ fn codes_of(triples: &[u32; 64], v: u64) -> Codes
 }
 
 // Board b as masks, taken from the words.
-fn board_cells(w: RecordWords, triples: &[u32; 64], b: usize) -> Codes
-    requires { (triples.now ≡ triple_table) × (b < 9) }
+fn board_cells(w: RecordWords, b: usize) -> Codes
+    requires { b < 9 }
     ensures { Masks (board (answers (cell_held w) 0 81) b) result }
 {
-    codes_of(triples, board_bits(w, b))
+    codes_of(board_bits(w, b))
 }
 
 // The cells of nine boards: X's masks in words 0 to 8, O's in 9 to 17, as a position has them. rest is 0 exactly if no code is 3.
@@ -152,18 +131,27 @@ pub struct Cells {
     pub rest: u16,
 }
 
-// All 81 cells, taken from the words.
-pub fn from_words(w: RecordWords) -> Cells
-    ensures { CellsRead (answers (cell_held w) 0 81) result }
+// All 81 cells, board by board.
+fn nine_boards<F: Fn(usize) -> Codes>(each: F) -> Cells
+    requires { (b : ℕ) → b < 9 → F.pre each b }
+    ensures { (cs : List ℕ) → ((b : ℕ) (r : Codes) → b < 9 → F.post each b r → Masks (board cs b) r) → CellsRead cs result }
 {
-    let triples = triple_table();
     let mut words = [0u16; 23];
     let mut rest: u16 = 0;
     for b in 0..9 {
-        let codes = board_cells(w, &triples, b);
+        let codes = each(b);
         words[b] = codes.x;
         words[9 + b] = codes.o;
-        rest = rest | codes.rest;
+        rest |= codes.rest;
     }
     Cells { words, rest }
+}
+
+// All 81 cells, taken from the words.
+impl From<RecordWords> for Cells {
+    ghost from_gives = { λ w r. CellsRead (answers (cell_held w) 0 81) r };
+
+    fn from(w: RecordWords) -> Cells {
+        nine_boards(|b| board_cells(w, b))
+    }
 }

@@ -1,20 +1,15 @@
 -- `cells::board_bits` meets its contract: the four cases of a board's place in the words. Assumes nothing.
-use native.Mathlib.Omega.{arith}
+use Rattle.std.proofs.Common.{◌<◌, ◌^◌, arith}
 use Rattle.cells.proofs.BoardBits.{join_fits, in_first, in_both, in_second, in_third}
 use Rattle.cells.proofs.board_bits.Goals as goal
 
 pub returns-then-b-lt3 : goal.returns-then-b-lt3
 returns-then-b-lt3 c = (λ i l. in_first _ _ i l c.if-b-lt3.true, omega arith)
 
-pub overflow_add-result : goal.overflow_add-result
-overflow_add-result c =
-    let w = c.args.w in
-    omega (arith, join_fits w.first w.second c.struct_known-then-b-eq3-2-1.given.1.0.fits)
-
 pub returns-then-b-eq3 : goal.returns-then-b-eq3
 returns-then-b-eq3 c =
     let w = c.args.w in
-    let fits = c.struct_known-then-b-eq3-2-1.given.1.0.fits in
+    let fits : w.second < 2 ^ 64 = omega arith in
     (λ i l. rw c.if-b-eq3.true (in_both w fits i l), join_fits w.first w.second fits)
 
 pub returns-then-b-lt6 : goal.returns-then-b-lt6

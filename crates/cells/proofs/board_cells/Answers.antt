@@ -3,4 +3,4 @@ use Rattle.cells.proofs.CellLaws.{taken_masks}
 use Rattle.cells.proofs.board_cells.Goals as goal
 
 pub returns : goal.returns
-returns c = taken_masks _ _ _ _ c.requires.1 c.board_bits.ensures.0 c.codes_of.ensures
+returns c = taken_masks _ _ _ _ c.requires c.board_bits.ensures.0 c.codes_of.ensures

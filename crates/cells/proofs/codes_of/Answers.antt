@@ -5,4 +5,4 @@ use Rattle.cells.proofs.codes_of.Goals as goal
 
 pub returns : goal.returns
 returns c =
-    three_law _ c.requires.1 _ _ (rw (c.triple.ensures.0, c.triple-2.ensures.0, c.triple-3.ensures.0)) refl refl refl
+    three_law _ c.requires _ _ (rw (c.triple.ensures.0, c.triple-2.ensures.0, c.triple-3.ensures.0)) refl refl refl

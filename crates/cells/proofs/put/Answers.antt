@@ -23,4 +23,4 @@ pub returns-in-2 : goal.returns-in-2
 returns-in-2 c g = put_two _ _ _ _ c.bit-in-2.ensures.0 g c.in-2.is
 
 pub returns-in_default : goal.returns-in_default
-returns-in_default c g = put_three _ _ _ _ c.bit-in_default.ensures.0 g (omega (arith, c.in_default.in_default-own.rest.1, c.in_default.in_default-own.rest.0.1, c.in_default.in_default-own.rest.0.0.1))
+returns-in_default c g = put_three _ _ _ _ c.bit-in_default.ensures.0 g (omega arith)

@@ -4,14 +4,8 @@ use Rattle.rules.specs.Record.{bit_at}
 use Rattle.rules.proofs.Bits.{number_lt}
 use Rattle.rules.proofs.Roundtrip.{load_bits}
 use Rattle.cells.proofs.CellLaws.{cells_done, cell_of}
-use Rattle.cells.proofs.Marks.{no_codes, putting, put_next}
+use Rattle.cells.proofs.Marks.{putting, put_next}
 use Rattle.cells.proofs.bits.board_cells.Goals as goal
-
-pub loop-c-init : goal.loop-c-init
-loop-c-init c = (omega arith, no_codes)
-
-pub number_at-requires : goal.number_at-requires
-number_at-requires c = (c.requires.0, omega arith, omega arith)
 
 pub put-codes-requires : goal.put-codes-requires
 put-codes-requires c =
