@@ -8,6 +8,7 @@ ghost use Rattle.refusals.specs.Numbers.{refusal_code};
 ghost use Rattle.game.specs.Words.{Holds};
 ghost use Rattle.cells.specs.Reading.{BoardsRead};
 
+use cells::Cells;
 use game::Game;
 use record::RECORD_LENGTH;
 use refusals::Refusal;
@@ -41,7 +42,7 @@ pub fn bench_cells_from_words(bytes: &[u8]) -> BenchCells
     if bytes.len() < RECORD_LENGTH {
         return no_cells();
     }
-    let read = cells::from_words(cells::record_words(bytes));
+    let read = Cells::from(cells::record_words(bytes));
     BenchCells {
         words: read.words,
         rest: read.rest,
