@@ -26,28 +26,28 @@ const FIRST: usize = 3;
 const SIBLING: usize = 4;
 
 // The places of the packed word's parts, most significant first: the value, the flags expanded, and, free, the move, the remembered move.
-const VALUE: u32 = 1073741824;
+const VALUE: u32 = 1 << 30;
 
-const EXPANDED: u32 = 536870912;
+const EXPANDED: u32 = 1 << 29;
 
-const AND: u32 = 268435456;
+const AND: u32 = 1 << 28;
 
-const FREE: u32 = 134217728;
+const FREE: u32 = 1 << 27;
 
-const MOVE: u32 = 524288;
+const MOVE: u32 = 1 << 19;
 
-const REMEMBERED: u32 = 2048;
+const REMEMBERED: u32 = 1 << 11;
 
 // The byte of a remembered move where there is none.
 const NO_MOVE: u32 = 255;
 
 // The number that is no node's.
-pub const NO_NODE: u32 = 4294967295;
+pub const NO_NODE: u32 = u32::MAX;
 
 // One a ply and the root.
 pub const PLIES: usize = 82;
 
-// A node's number.
+// A node's number, or NO_NODE. No Option: document 01 names this tuple struct, and `first_child` and `sibling` promise the word itself, whichever it is.
 #[derive(Clone, Copy)]
 pub struct NodeID(pub u32);
 
@@ -129,15 +129,7 @@ pub fn sibling(words: &[u32], id: NodeID) -> NodeID
 pub fn pack(value: Evaluation, and: bool, mv: Move) -> u32
     ensures { result ≡ pack (number value) 0 (bit and) 0 mv.0 255 }
 {
-    let v = value.number();
-    let a = flag(and);
-    v * VALUE + a * AND + mv.0 as u32 * MOVE + NO_MOVE * REMEMBERED
-}
-
-fn flag(b: bool) -> u32
-    ensures { result ≡ bit b }
-{
-    if b { 1 } else { 0 }
+    value.number() * VALUE + and as u32 * AND + mv.0 as u32 * MOVE + NO_MOVE * REMEMBERED
 }
 
 pub fn expanded_in(packed: u32) -> bool
@@ -197,15 +189,20 @@ pub fn set_expanded(words: &mut [u32], id: NodeID)
     requires { Slot words.old id.0 × (expanded_in (word words.old id.0 packed_place) ≡ 0) }
     ensures { words.new ≡ set_word words.old id.0 packed_place (word words.old id.0 packed_place + 536870912) }
 {
-    let x = packed(words, id);
-    put(words, id, PACKED, x + EXPANDED);
+    put(words, id, PACKED, packed(words, id) + EXPANDED);
 }
 
-// The head of the freed nodes, how many numbers have been used, and the counts.
+// The nodes that are free: the head of the freed ones, and those whose numbers have never been used, from `used` on.
 #[derive(Clone, Copy)]
-pub struct Pool {
+pub struct Vacant {
     pub head: NodeID,
     pub used: u32,
+}
+
+// The free nodes, and the counts.
+#[derive(Clone, Copy)]
+pub struct Pool {
+    pub vacant: Vacant,
     pub allocated: u64,
     pub freed: u64,
 }
@@ -223,35 +220,37 @@ impl Pool {
         requires { (self.freed ≤ self.allocated) × (self.allocated - self.freed ≤ capacity) }
         ensures { result ≡ capacity - (self.allocated - self.freed) }
     {
-        capacity - (self.allocated - self.freed)
+        capacity - self.live()
     }
 }
 
-// A node that was taken, and what is left: the head of the freed nodes, and how many numbers have been used.
+// A node that was taken, and what is free then.
 #[derive(Clone, Copy)]
 pub struct AllocedNode {
     pub id: NodeID,
-    pub head: NodeID,
-    pub used: u32,
+    pub vacant: Vacant,
 }
 
 // The node last freed, or else the next number never used.
-fn take(words: &[u32], head: NodeID, used: u32) -> AllocedNode
-    requires { Spare words.now head.0 used }
-    ensures { (g : Spare words.now head.0 used) → Number words.now head.0 used g result.id.0 result.head.0 result.used }
+fn take(words: &[u32], vacant: Vacant) -> AllocedNode
+    requires { Spare words.now vacant.head.0 vacant.used }
+    ensures { (g : Spare words.now vacant.head.0 vacant.used) → Number words.now vacant.head.0 vacant.used g result.id.0 result.vacant.head.0 result.vacant.used }
 {
-    if head.exists() {
-        let next = first_child(words, head);
+    if vacant.head.exists() {
         AllocedNode {
-            id: head,
-            head: next,
-            used,
+            id: vacant.head,
+            vacant: Vacant {
+                head: first_child(words, vacant.head),
+                ..vacant
+            },
         }
     } else {
         AllocedNode {
-            id: NodeID(used),
-            head,
-            used: used + 1,
+            id: NodeID(vacant.used),
+            vacant: Vacant {
+                used: vacant.used + 1,
+                ..vacant
+            },
         }
     }
 }
@@ -271,18 +270,16 @@ fn fill(words: &mut [u32], id: NodeID, bounds: Bounds, packed: u32, sibling: Nod
 // Takes a node and makes a leaf of it, before the sibling.
 pub fn alloc(
     words: &mut [u32],
-    head: NodeID,
-    used: u32,
+    vacant: Vacant,
     bounds: Bounds,
     packed: u32,
     sibling: NodeID,
 ) -> AllocedNode
-    requires { Spare words.old head.0 used }
-    ensures { Allocs words.old head used bounds packed sibling words.new result }
+    requires { Spare words.old vacant.head.0 vacant.used }
+    ensures { Allocs words.old vacant bounds packed sibling words.new result }
 {
-    let node = take(words, head, used);
-    let id = node.id;
-    fill(words, id, bounds, packed, sibling);
+    let node = take(words, vacant);
+    fill(words, node.id, bounds, packed, sibling);
     node
 }
 
@@ -291,14 +288,15 @@ pub fn free(words: &mut [u32], pool: Pool, id: NodeID) -> Pool
     requires { Slot words.old id.0 × (pool.freed < pool.allocated) }
     ensures { Frees words.old pool id words.new result }
 {
-    let head = pool.head;
     put(words, id, PACKED, FREE);
-    put(words, id, FIRST, head.0);
+    put(words, id, FIRST, pool.vacant.head.0);
     Pool {
-        head: id,
-        used: pool.used,
-        allocated: pool.allocated,
+        vacant: Vacant {
+            head: id,
+            ..pool.vacant
+        },
         freed: pool.freed + 1,
+        ..pool
     }
 }
 
@@ -316,16 +314,15 @@ fn wait(todo: &mut [u32; PLIES], top: usize, id: NodeID) -> usize
     }
 }
 
-// Frees the list of siblings from `first` on, and all below.
+// Frees the list of siblings from `first` on, and all below. `todo` has a length beside it: fixed memory and no heap.
 pub fn free_siblings(words: &mut [u32], todo: &mut [u32; PLIES], first: NodeID, pool: Pool) -> Pool
     requires room { length todo.old ≡ plies }
-    requires freeable { Freeable Position words.old first.0 pool.head.0 pool.freed pool.allocated }
+    requires freeable { Freeable Position words.old first.0 pool.vacant.head.0 pool.freed pool.allocated }
     ensures room { length todo.new ≡ plies }
     ensures frees_all { FreesAll words.old first pool words.new result }
 {
-    let start = first.0;
     let mut p = pool;
-    let mut top = wait(todo, 0, NodeID(start));
+    let mut top = wait(todo, 0, first);
     while 0 < top {
         let at = top - 1;
         let id = NodeID(todo[at]);

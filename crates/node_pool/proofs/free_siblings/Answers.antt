@@ -11,14 +11,14 @@ use Rattle.node_pool.proofs.free_siblings.Goals.{In-loop-top}
 use Rattle.node_pool.proofs.free_siblings.Goals as goal
 
 abbrev Still : In-loop-top → Type 0
-Still c = Freeing Position c.args.words.now c.args.first.0 c.args.pool.head.0 c.args.pool.freed c.args.pool.allocated c.requires.freeable
-    c.loop-top.words c.loop-top.todo c.loop-top.p.head.0 c.loop-top.p.freed c.loop-top.top
+Still c = Freeing Position c.args.words.now c.args.first.0 c.args.pool.vacant.head.0 c.args.pool.freed c.args.pool.allocated c.requires.freeable
+    c.loop-top.words c.loop-top.todo c.loop-top.p.vacant.head.0 c.loop-top.p.freed c.loop-top.top
 
 still : (c : In-loop-top) → Still c
 still c = c.loop-top.invariant.1 c.requires.freeable
 
 abbrev Here : In-loop-top → Type 0
-Here c = Turn Position c.args.words.now c.args.first.0 c.args.pool.head.0 c.args.pool.freed c.args.pool.allocated c.requires.freeable
+Here c = Turn Position c.args.words.now c.args.first.0 c.args.pool.vacant.head.0 c.args.pool.freed c.args.pool.allocated c.requires.freeable
     c.loop-top.words c.loop-top.todo c.loop-top.p.freed (c.loop-top.top - 1)
 
 here : (c : In-loop-top) → Here c
@@ -72,7 +72,7 @@ returns c =
     let l = c.loop-top in record {
       room = l.invariant.0;
       frees_all = λ g.
-          let f = freeing_end Position _ _ _ _ _ g _ _ _ _ (subst (λ (t : ℕ). Freeing Position _ _ _ _ _ g l.words l.todo l.p.head.0 l.p.freed t) (omega arith) (l.invariant.1 g)) in
+          let f = freeing_end Position _ _ _ _ _ g _ _ _ _ (subst (λ (t : ℕ). Freeing Position _ _ _ _ _ g l.words l.todo l.p.vacant.head.0 l.p.freed t) (omega arith) (l.invariant.1 g)) in
           record { freed = f; used_is = l.invariant.2; allocated_is = l.invariant.3; trees = λ K ks i e z h. (part_agree K _ _ f.long ks i e (λ x p. f.kept x (z x p)) h).0 };
     }
 

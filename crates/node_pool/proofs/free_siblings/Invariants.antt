@@ -9,8 +9,8 @@ use Rattle.node_pool.proofs.free_siblings.Given as goal
 abbrev pub invariant-loop-top : goal.invariant-loop-top
 invariant-loop-top l =
     (length l.todo ≡ plies)
-    × ((g : Freeable Position l.initial.words l.start l.initial.p.head.0 l.initial.p.freed l.initial.p.allocated) → Freeing Position l.initial.words l.start l.initial.p.head.0 l.initial.p.freed l.initial.p.allocated g l.words l.todo l.p.head.0 l.p.freed l.top)
-    × (l.p.used ≡ l.initial.p.used)
+    × ((g : Freeable Position l.initial.words l.fn.first.0 l.initial.p.vacant.head.0 l.initial.p.freed l.initial.p.allocated) → Freeing Position l.initial.words l.fn.first.0 l.initial.p.vacant.head.0 l.initial.p.freed l.initial.p.allocated g l.words l.todo l.p.vacant.head.0 l.p.freed l.top)
+    × (l.p.vacant.used ≡ l.initial.p.vacant.used)
     × (l.p.allocated ≡ l.initial.p.allocated)
 
 abbrev pub decreases-loop-top : goal.decreases-loop-top
