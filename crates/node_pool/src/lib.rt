@@ -5,11 +5,14 @@
 ghost use Rattle.std.specs.Prelude.{◌≡◌, not, ◌+◌, ◌-◌, ◌≤◌, ◌<◌, length, eqb};
 ghost use Rattle.rules.specs.Rules.{Position};
 ghost use Rattle.prove.specs.Numbers.{number};
-ghost use Rattle.words.specs.Packed.{pack, bit, expanded_in, and_in, move_in, remembered_in, with_remembered};
+ghost use Rattle.words.specs.Packed.{View, pack, bit, expanded_in, and_in, move_in, remembered_in, with_remembered};
 ghost use Rattle.words.specs.Words.{NONE, PHI as phi_place, DELTA as delta_place, PACKED as packed_place, FIRST as first_place, SIBLING as sibling_place, word, set_word, capacity, Slot, Filled};
+ghost use Rattle.words.specs.Walks.{Walkable};
 ghost use Rattle.words.specs.Free.{Spare, Number};
 ghost use Rattle.words.specs.Freeing.{plies, Pushed, Freeable};
+ghost use Rattle.node_pool.specs.declared.NodeID.{NodeID};
 ghost use Rattle.node_pool.specs.Promises.{Allocs, Frees, FreesAll};
+ghost use Rattle.node_pool.specs.Seeking.{Seeks};
 
 use game::Move;
 use prove::{Bounds, Evaluation};
@@ -123,6 +126,19 @@ pub fn sibling(words: &[u32], id: NodeID) -> NodeID
     ensures { result.0 ≡ word words.now id.0 sibling_place }
 {
     NodeID(get(words, id, SIBLING))
+}
+
+// The first of the siblings from `first` on that passes the test; no node if none does.
+pub fn find<F: Fn(NodeID) -> bool>(words: &[u32], first: NodeID, test: F) -> NodeID
+    requires walks { (K : View Position) × Walkable K words.now first.0 }
+    requires tests { (id : NodeID) → Slot words.now id.0 → F.pre test id }
+    ensures { Seeks (F.post test) words.now first.0 result }
+{
+    let mut id = first;
+    while id.exists() && !test(id) {
+        id = sibling(words, id);
+    }
+    id
 }
 
 // A packed word: of a new leaf, and what each part of it says.

@@ -23,7 +23,7 @@ Positions ps (suc e) (a ∷ up) n = game-words.Holds n.pos ps (suc e * 24) × Po
 
 -- The pool's words w, the path and the positions ps hold the state s
 pub record Stands (rule : ℕ) (root : Player) (w path ps : List ℕ) (x : Prover) (s : State Position) : Type 0 where
-  pub tree : pool_words.Holds (view (game rule root)) w path x.depth x.pool.head.0 x.pool.used x.pool.allocated x.pool.freed s
+  pub tree : pool_words.Holds (view (game rule root)) w path x.depth x.pool.vacant.head.0 x.pool.vacant.used x.pool.allocated x.pool.freed s
   pub positions : Positions ps x.depth s.above s.node
   pub proved_is : x.proved ≡ s.counts.proved
   pub disproved_is : x.disproved ≡ s.counts.disproved

@@ -3,6 +3,7 @@
 #![tactic(auto)]
 
 use node_pool::Pool;
+use prove::Bounds;
 
 // The place of the current node on the path, the pool's state, and the counts of proved, disproved and expanded nodes.
 #[derive(Clone, Copy)]
@@ -12,4 +13,11 @@ pub struct Prover {
     pub proved: u64,
     pub disproved: u64,
     pub expanded: u64,
+}
+
+// A state of the search on its way up, and the current node's numbers as its children give them: what expanding a leaf leaves to the climb, and each turn of the climb to the next.
+#[derive(Clone, Copy)]
+pub struct Ascent {
+    pub prover: Prover,
+    pub bounds: Bounds,
 }
