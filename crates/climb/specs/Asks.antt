@@ -1,5 +1,7 @@
 -- What the functions of step 5 ask for, and what they come to. Rests on prover's Stands and the plain machine.
-use Rattle.std.specs.Prelude.{◌≡◌, List, ◌∷◌, Bool, true, false, cond, ◌||◌, ℕ, suc, ◌+◌, ◌≤◌, ◌<◌, min, eqb, length, get_or}
+use Rattle.std.specs.Prelude.{◌≡◌, List, ◌∷◌, Bool, false, cond, ◌||◌, ℕ, suc, ◌+◌, ◌≤◌, ◌<◌, min, eqb, length, get_or}
+use Rattle.std.specs.declared.ops.ControlFlow.{ControlFlow}
+use Rattle.std.specs.declared.ops.ControlFlow.TheVariants.{Continue, Break}
 use Rattle.rules.specs.Rules.{Player, Position}
 use Rattle.machine.specs.Game.{Game, sequences}
 use Rattle.machine.specs.Tree.{Node, u32_max, Children, none, child, least_delta, sum_phi, append}
@@ -14,7 +16,7 @@ use Rattle.words.specs.Walks.{Walkable}
 use Rattle.node_pool.specs.declared.Pool.{Pool}
 use Rattle.prover.specs.declared.Prover.{Prover}
 use Rattle.prover.specs.Stands.{Stands}
-use Rattle.climb.specs.declared.Ascent.{Ascent}
+use Rattle.prover.specs.declared.Ascent.{Ascent}
 
 -- A list of siblings from `first` on, and its numbers
 pub record Recomputable (w : List ℕ) (first : ℕ) : Type 0 where
@@ -144,24 +146,28 @@ pub record Raisable (w path : List ℕ) (x : Prover) (number old phi delta : ℕ
 
 -- It is seen from the node above, whose numbers are worked out
 pub record Raised (w path : List ℕ) (x : Prover) (number old phi delta : ℕ) (g : Raisable w path x number old phi delta) (k : Ascent) : Type 0 where
-  pub going_is : k.going ≡ true
   pub stands : Stands g.rule g.side w path g.ps k.prover (state g.counts g.above g.up.node (append g.up.before (child g.node g.below g.up.after)))
-  pub phi_is : k.phi ≡ least_delta (append g.up.before (child g.node g.below g.up.after))
-  pub delta_is : k.delta ≡ min (sum_phi (append g.up.before (child g.node g.below g.up.after))) u32_max
+  pub phi_is : k.bounds.phi ≡ least_delta (append g.up.before (child g.node g.below g.up.after))
+  pub delta_is : k.bounds.delta ≡ min (sum_phi (append g.up.before (child g.node g.below g.up.after))) u32_max
 
 abbrev pub Raises : List ℕ → List ℕ → Prover → ℕ → ℕ → ℕ → ℕ → Ascent → Type 0
 Raises w path x number old phi delta k = (g : Raisable w path x number old phi delta) → Raised w path x number old phi delta g k
 
 -- The climb goes on from here, or this is where it ends
-abbrev pub Way : Bool → ℕ → Player → List ℕ → List ℕ → List ℕ → Prover → ℕ → ℕ → State Position → Type 0
-Way true rule side w path ps x phi delta whole = Going rule side w path ps x phi delta whole
-Way false rule side w path ps x phi delta whole = Stands rule side w path ps x whole
+abbrev pub Way : ControlFlow Prover Ascent → ℕ → Player → List ℕ → List ℕ → List ℕ → State Position → Type 0
+Way (Continue k) rule side w path ps whole = Going rule side w path ps k.prover k.bounds.phi k.bounds.delta whole
+Way (Break x) rule side w path ps whole = Stands rule side w path ps x whole
+
+-- How many nodes it may still store
+abbrev pub left : ControlFlow Prover Ascent → ℕ
+left (Continue k) = suc k.prover.depth
+left (Break x) = 0
 
 -- A turn was made; the climb goes on one node higher, or it ended
-pub record Ascended (w path : List ℕ) (x : Prover) (phi delta : ℕ) (g : Ascending w path x phi delta) (v : List ℕ) (k : Ascent) : Type 0 where
-  pub way : Way k.going g.rule g.side v path g.ps k.prover k.phi k.delta g.whole
-  pub less : cond k.going (suc k.prover.depth) 0 < suc x.depth
+pub record Ascended (w path : List ℕ) (x : Prover) (phi delta : ℕ) (g : Ascending w path x phi delta) (v : List ℕ) (r : ControlFlow Prover Ascent) : Type 0 where
+  pub way : Way r g.rule g.side v path g.ps g.whole
+  pub less : left r < suc x.depth
   pub past : Beyond w v
 
-abbrev pub Ascends : List ℕ → List ℕ → Ascent → List ℕ → Ascent → Type 0
-Ascends w path k v r = (g : Ascending w path k.prover k.phi k.delta) → Ascended w path k.prover k.phi k.delta g v r
+abbrev pub Ascends : List ℕ → List ℕ → Ascent → List ℕ → ControlFlow Prover Ascent → Type 0
+Ascends w path k v r = (g : Ascending w path k.prover k.bounds.phi k.bounds.delta) → Ascended w path k.prover k.bounds.phi k.bounds.delta g v r

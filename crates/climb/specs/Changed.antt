@@ -1,19 +1,20 @@
--- The numbers of a list one of whose nodes changes, and a walk for a delta. Rests on words and Asks.
-use Rattle.std.specs.Prelude.{◌≡◌, Bool, ◌||◌, List, ◌∷◌, ℕ, zero, suc, ◌+◌, ◌≤◌, min, eqb, get_or}
+-- The numbers of a list one of whose nodes changes, and a delta found in it. Rests on words and Asks.
+use Rattle.std.specs.Prelude.{◌≡◌, Bool, not, ◌||◌, List, ◌∷◌, ℕ, zero, suc, ◌+◌, ◌≤◌, min, eqb, get_or}
 use Rattle.std.proofs.Math.Path.{refl, ap, sym}
 use Rattle.std.proofs.Common.{◌∙◌, eqb-true, eq-eqb, ne_eqb}
 use Rattle.std.proofs.Math.Bool.{true, false}
+use Rattle.std.proofs.Math.Decide.{ℕ_discrete}
 use Rattle.std.proofs.lemmas.Bool.{false≢true}
 use native.Mathlib.Omega.{arith}
-use Rattle.machine.specs.Tree.{Node, Children, none, child, size, least_delta, sum_phi, append}
-use Rattle.machine.specs.Machine.{Ancestor}
-use Rattle.machine.specs.Place.{pool_max}
+use Rattle.rules.specs.Rules.{Position}
+use Rattle.machine.specs.Tree.{Node, Children, none, child, least_delta, sum_phi, append}
+use Rattle.machine.specs.Machine.{Ancestor, first_that, holds_at}
+use Rattle.machine.specs.Machine.{has_delta as delta_is}
 use Rattle.words.specs.Packed.{View}
-use Rattle.words.specs.Words.{NONE, DELTA, SIBLING, word}
-use Rattle.words.proofs.Words.{slot_some}
+use Rattle.words.specs.Words.{NONE, SIBLING, word}
 use Rattle.words.specs.Trees.{Part}
 use Rattle.words.specs.Pool.{Line}
-use Rattle.words.specs.Walks.{Walkable}
+use Rattle.node_pool.specs.Seeking.{Sought}
 use Rattle.climb.specs.Asks.{has_delta}
 
 -- One node of a list, and the others
@@ -48,39 +49,21 @@ found_least x (child n b ks) e = go (eqb n.delta x) refl e (found_least x ks)
     go true p q f = omega (arith, eqb-true n.delta x p)
     go false p q f = omega (arith, f q)
 
-module _ {Pos : Type 0} (K : View Pos) (w : List ℕ) (i delta : ℕ) (h : Walkable K w i) where
-  -- The rest of the list: the delta is found in it exactly if it is in the whole list
-  pub record Passing (j : ℕ) : Type 0 where
-    pub rest : Walkable K w j
-    pub same : has_delta delta h.list ≡ has_delta delta rest.list
+-- A delta is found in a list exactly if the first child that has it is there
+pub has_first : {Pos : Type 0} (x : ℕ) (ks : Children Pos) → holds_at (delta_is x) ks (first_that (delta_is x) ks) ≡ has_delta x ks
+unfolding has_delta holds_at first_that
+has_first x none = refl
+has_first x (child n b ks) = go (eqb n.delta x) refl (has_first x ks)
+  where
+    go : (t : Bool) → eqb n.delta x ≡ t → holds_at (delta_is x) ks (first_that (delta_is x) ks) ≡ has_delta x ks
+        → holds_at (delta_is x) (child n b ks) (first_that (delta_is x) (child n b ks)) ≡ has_delta x (child n b ks)
+    go true p h = rw (p, first_that, holds_at, has_delta, p)
+    go false p h = rw (p, first_that, holds_at, has_delta) h
 
-  pub passing_start : Passing i
-  passing_start = record { rest = h; same = refl }
-
-  -- At a node with that delta, at one with another, and past the last
-  pub passing_found : (j : ℕ) → (j ≡ NONE → ⊥) → word w j DELTA ≡ delta → Passing j → true ≡ has_delta delta h.list
-  unfolding has_delta
-  passing_found j z e s = sym (s.same ∙ go s.rest.list s.rest.part)
-    where
-      go : (ks : Children Pos) → Part K w ks j NONE → has_delta delta ks ≡ true
-      go none p = absurd (z p)
-      go (child n b ks) p = ap (λ (t : Bool). t || has_delta delta ks) (eq-eqb n.delta delta (sym p.0.delta_is ∙ e))
-
-  pub passing_next : (j : ℕ) → (j ≡ NONE → ⊥) → (word w j DELTA ≡ delta → ⊥) → Passing j → Passing (word w j SIBLING)
-  unfolding has_delta size
-  passing_next j z e s = go s.rest.list s.rest.part s.rest.few s.same
-    where
-      go : (ks : Children Pos) → Part K w ks j NONE → size ks ≤ pool_max → has_delta delta h.list ≡ has_delta delta ks → Passing (word w j SIBLING)
-      go none p l a = absurd (z p)
-      go (child n b ks) p l a = record {
-        rest = record { list = ks; part = p.2; few = omega arith };
-        same = a ∙ ap (λ (t : Bool). t || has_delta delta ks) (ne_eqb n.delta delta (λ q. e (p.0.delta_is ∙ q)));
-      }
-
-  pub passing_end : (j : ℕ) → j ≡ NONE → Passing j → false ≡ has_delta delta h.list
-  unfolding has_delta
-  passing_end j z s = sym (s.same ∙ go s.rest.list s.rest.part)
-    where
-      go : (ks : Children Pos) → Part K w ks j NONE → has_delta delta ks ≡ false
-      go none p = refl
-      go (child n b ks) p = absurd (slot_some p.0.slot z)
+-- So it is if the walk for it ended at a node
+pub found : (K : View Position) (w : List ℕ) (first x : ℕ) (ks : Children Position) (i : ℕ) → Sought K w first (delta_is x) ks i → not (eqb i NONE) ≡ has_delta x ks
+found K w first x ks i s = go (ℕ_discrete i NONE)
+  where
+    go : Dec (i ≡ NONE) → not (eqb i NONE) ≡ has_delta x ks
+    go (yes e) = ap not (eq-eqb i NONE e) ∙ sym (s.nowhere e (delta_is x)) ∙ has_first x ks
+    go (no z) = ap not (ne_eqb i NONE z) ∙ sym (s.passes z) ∙ has_first x ks

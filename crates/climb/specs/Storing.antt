@@ -74,8 +74,8 @@ module _ (w path : List ℕ) (x : Prover) (phi delta : ℕ) (g : Ascending w pat
   again : Renumbered w v₁ i (least_delta s.below) (min (sum_phi s.below) u32_max)
   again = rw (g.going.phi_is, g.going.delta_is) at (renumbered w v₁ i phi delta g.going.stands.tree.tree.node.slot set)
 
-  holding : Holding K v₁ path x.depth x.pool.head.0 x.pool.used s.above n s.below none NONE
-  holding = holding_renumbered G K w path x.depth x.pool.head.0 x.pool.used s.above s.node s.below g.going.stands.tree.tree v₁ again
+  holding : Holding K v₁ path x.depth x.pool.vacant.head.0 x.pool.vacant.used s.above n s.below none NONE
+  holding = holding_renumbered G K w path x.depth x.pool.vacant.head.0 x.pool.vacant.used s.above s.node s.below g.going.stands.tree.tree v₁ again
 
   line : Positions g.ps x.depth s.above n
   unfolding renumber
@@ -84,9 +84,9 @@ module _ (w path : List ℕ) (x : Prover) (phi delta : ℕ) (g : Ascending w pat
   past : Beyond w v₁
   past = only_beyond g.going.stands.tree.tree.node.slot again.only
 
-  held_stored : (b : Bool) → solved n ≡ b → (v : List ℕ) (head freed : ℕ) → Holding K v path x.depth head x.pool.used s.above n (cond b none s.below) none NONE → freed ≡ x.pool.freed + cond b (size s.below) 0
-      → Holds K v path x.depth head x.pool.used x.pool.allocated freed (store G s.counts s.above s.node s.below)
-  held_stored = holds_stored G K w path x.depth x.pool.head.0 x.pool.used x.pool.allocated x.pool.freed s.counts s.above s.node s.below g.going.stands.tree
+  held_stored : (b : Bool) → solved n ≡ b → (v : List ℕ) (head freed : ℕ) → Holding K v path x.depth head x.pool.vacant.used s.above n (cond b none s.below) none NONE → freed ≡ x.pool.freed + cond b (size s.below) 0
+      → Holds K v path x.depth head x.pool.vacant.used x.pool.allocated freed (store G s.counts s.above s.node s.below)
+  held_stored = holds_stored G K w path x.depth x.pool.vacant.head.0 x.pool.vacant.used x.pool.allocated x.pool.freed s.counts s.above s.node s.below g.going.stands.tree
 
   solved_is : (b : Bool) → b ≡ (eqb phi 0 || eqb delta 0) → solved n ≡ b
   unfolding solved renumber
@@ -101,7 +101,7 @@ module _ (w path : List ℕ) (x : Prover) (phi delta : ℕ) (g : Ascending w pat
       let z = uncounted G n e in
       record {
         stands = record {
-          tree = held_stored false e v₁ x.pool.head.0 x.pool.freed holding (omega arith);
+          tree = held_stored false e v₁ x.pool.vacant.head.0 x.pool.freed holding (omega arith);
           positions = line;
           proved_is = omega (arith, h.proved_is, z.0);
           disproved_is = omega (arith, h.disproved_is, z.1);
@@ -121,16 +121,16 @@ module _ (w path : List ℕ) (x : Prover) (phi delta : ℕ) (g : Ascending w pat
     cut_off : words.Stored v₁ v₂ i FIRST NONE
     cut_off = rw end_is at (laws.stored v₁ v₂ i FIRST end holding.node.slot (omega arith) cut)
 
-    bare : Holding K v₂ path x.depth x.pool.head.0 x.pool.used s.above n none s.below first.0
+    bare : Holding K v₂ path x.depth x.pool.vacant.head.0 x.pool.vacant.used s.above n none s.below first.0
     bare =
         rw (first_is ∙ again.beside FIRST (omega arith))
-        (holding_cut G K w path x.depth x.pool.head.0 x.pool.used s.above s.node s.below g.going.stands.tree.tree v₁ again v₂ cut_off)
+        (holding_cut G K w path x.depth x.pool.vacant.head.0 x.pool.vacant.used s.above s.node s.below g.going.stands.tree.tree v₁ again v₂ cut_off)
 
     owed : x.pool.freed + size s.below ≤ x.pool.allocated
     owed = let t = g.going.stands.tree in omega (arith, t.balance, t.allocated_is, t.freed_is)
 
-    pub freeable : Freeable Position v₂ first.0 x.pool.head.0 x.pool.freed x.pool.allocated
-    freeable = loose_freeable K v₂ path x.depth x.pool.head.0 x.pool.used s.above n none s.below first.0 bare x.pool.freed x.pool.allocated owed
+    pub freeable : Freeable Position v₂ first.0 x.pool.vacant.head.0 x.pool.freed x.pool.allocated
+    freeable = loose_freeable K v₂ path x.depth x.pool.vacant.head.0 x.pool.vacant.used s.above n none s.below first.0 bare x.pool.freed x.pool.allocated owed
 
     -- They are freed, and it is counted
     pub solved_stored : (b : Bool) → b ≡ (eqb phi 0 || eqb delta 0) → b ≡ true → (bits : ℕ) → bits ≡ word v₁ i PACKED → (and : Bool) → and ≡ eqb (and_in bits) 1
@@ -140,10 +140,10 @@ module _ (w path : List ℕ) (x : Prover) (phi delta : ℕ) (g : Ascending w pat
         let h = g.going.stands in
         let e = solved_is b t ∙ f in
         let flag = by_flag G n bits and holding.node.byte (bits_are ∙ holding.node.packed_is) and_is phi delta g.going.phi_is g.going.delta_is in
-        let empty = loose_freed K v₂ path x.depth x.pool.head.0 x.pool.used s.above n none s.below first.0 bare x.pool.freed x.pool.allocated owed v pool.head.0 pool.freed all.freed in
+        let empty = loose_freed K v₂ path x.depth x.pool.vacant.head.0 x.pool.vacant.used s.above n none s.below first.0 bare x.pool.freed x.pool.allocated owed v pool.vacant.head.0 pool.freed all.freed in
         record {
           stands = record {
-            tree = rw (c.depth_is, c.pool_is, all.used_is, all.allocated_is) (held_stored true e v pool.head.0 pool.freed empty all.freed.all);
+            tree = rw (c.depth_is, c.pool_is, all.used_is, all.allocated_is) (held_stored true e v pool.vacant.head.0 pool.freed empty all.freed.all);
             positions = rw c.depth_is line;
             proved_is = omega (arith, h.proved_is, c.proved_is, ap zeros flag.0);
             disproved_is = omega (arith, h.disproved_is, c.disproved_is, ap zeros flag.1);

@@ -8,6 +8,7 @@ use Prim.Native.Nat.{ℕ, zero, suc, ◌-◌, ◌≤◌, ◌<◌, min}
 use native.Mathlib.Omega.{arith}
 use Rattle.std.proofs.Math.Dec.{eqb}
 use Rattle.std.proofs.Math.ListN.{length, get_or}
+use Rattle.std.specs.declared.ops.ControlFlow.TheVariants.{Continue, Break}
 use Rattle.rules.specs.Rules.{Player, Position}
 use Rattle.machine.specs.Game.{Game}
 use Rattle.machine.specs.Tree.{Node, u32_max, Children, none, child, size, least_delta, sum_phi, append, proof_of, disproof_of}
@@ -27,8 +28,8 @@ use Rattle.words.proofs.Steps.{line_root}
 use Rattle.words.proofs.States.{holds_up}
 use Rattle.prover.specs.declared.Prover.{Prover}
 use Rattle.prover.specs.Stands.{Positions, Stands}
-use Rattle.climb.specs.declared.Ascent.{Ascent}
-use Rattle.climb.specs.Asks.{zeros, Recomputable, PhiRaisable, RaisesPhi, DeltaRaisable, RaisesDelta, climbed, Climbable, Going, Ascending, Stored, Way, Raisable, Raised, Raises, Ascended}
+use Rattle.prover.specs.declared.Ascent.{Ascent}
+use Rattle.climb.specs.Asks.{zeros, Recomputable, PhiRaisable, RaisesPhi, DeltaRaisable, RaisesDelta, climbed, Climbable, Going, Ascending, Stored, Raisable, Raised, Raises, Ascended}
 use Rattle.climb.specs.Changed.{least_apart, sum_apart, least_after, line_after}
 
 zeros_le : (n : ℕ) → zeros n ≤ 1
@@ -89,13 +90,13 @@ module _ (w path : List ℕ) (x : Prover) (number old phi delta : ℕ) (g : Rais
   unfolding shallower all
   raised = go x.depth refl g.stands.tree g.stands.positions
     where
-      go : (d : ℕ) → x.depth ≡ d → Holds (view (game g.rule g.side)) w path d x.pool.head.0 x.pool.used x.pool.allocated x.pool.freed (state g.counts (g.up ∷ g.above) g.node g.below)
+      go : (d : ℕ) → x.depth ≡ d → Holds (view (game g.rule g.side)) w path d x.pool.vacant.head.0 x.pool.vacant.used x.pool.allocated x.pool.freed (state g.counts (g.up ∷ g.above) g.node g.below)
           → Positions g.ps d (g.up ∷ g.above) g.node → Stands g.rule g.side w path g.ps (shallower x) (state g.counts g.above g.up.node all)
       go zero e t p = absurd p
       go (suc d) e t p =
           let q : d ≡ x.depth - 1 = omega arith in
           record {
-            tree = rw q at (holds_up (view (game g.rule g.side)) w path x.pool.head.0 x.pool.used x.pool.allocated x.pool.freed g.counts d g.up g.above g.node g.below t);
+            tree = rw q at (holds_up (view (game g.rule g.side)) w path x.pool.vacant.head.0 x.pool.vacant.used x.pool.allocated x.pool.freed g.counts d g.up g.above g.node g.below t);
             positions = rw q at p.1;
             proved_is = g.stands.proved_is;
             disproved_is = g.stands.disproved_is;
@@ -151,9 +152,9 @@ module _ (w path : List ℕ) (x : Prover) (number old phi delta : ℕ) (g : Rais
 
     pub raises : (held_phi held_delta next_phi next_delta : ℕ) → held_phi ≡ word w (get_or path (x.depth - 1) 0) PHI → held_delta ≡ word w (get_or path (x.depth - 1) 0) DELTA
         → RaisesPhi w first number held_phi delta next_phi → RaisesDelta w first held_delta old phi next_delta
-        → Raised w path x number old phi delta g (record { going = true; phi = next_phi; delta = next_delta; prover = record { depth = x.depth - 1; pool = x.pool; proved = x.proved; disproved = x.disproved; expanded = x.expanded } })
+        → Raised w path x number old phi delta g (record { prover = record { depth = x.depth - 1; pool = x.pool; proved = x.proved; disproved = x.disproved; expanded = x.expanded }; bounds = record { phi = next_phi; delta = next_delta } })
     unfolding shallower all walk raised_least raised_sum
-    raises held_phi held_delta next_phi next_delta p d f s = record { going_is = refl; stands = raised; phi_is = f (raised_least held_phi p); delta_is = s (raised_sum held_delta d) }
+    raises held_phi held_delta next_phi next_delta p d f s = record { stands = raised; phi_is = f (raised_least held_phi p); delta_is = s (raised_sum held_delta d) }
 
 -- One turn
 module _ (w path : List ℕ) (x : Prover) (phi delta : ℕ) (g : Ascending w path x phi delta) where
@@ -163,12 +164,8 @@ module _ (w path : List ℕ) (x : Prover) (phi delta : ℕ) (g : Ascending w pat
   abbrev s : State Position
   s = g.going.at
 
-  ended : (v : List ℕ) → Beyond w v → (r : Prover) → Stands g.rule g.side v path g.ps r g.whole → (k : Ascent) → (k.going ≡ false) × (k.prover ≡ r) → Ascended w path x phi delta g v k
-  ended v past r h k e = record {
-    way = subst (λ (b : Bool). Way b g.rule g.side v path g.ps k.prover k.phi k.delta g.whole) (sym e.0) (subst (λ (y : Prover). Stands g.rule g.side v path g.ps y g.whole) (sym e.1) h);
-    less = omega (arith, ap (λ (b : Bool). cond b (suc k.prover.depth) 0) e.0);
-    past = past;
-  }
+  ended : (v : List ℕ) → Beyond w v → (r : Prover) → Stands g.rule g.side v path g.ps r g.whole → Ascended w path x phi delta g v (Break r)
+  ended v past r h = record { way = h; less = omega arith; past = past }
 
   module _ (same : Bool) (same_is : same ≡ (eqb (word w (get_or path x.depth 0) PHI) phi && eqb (word w (get_or path x.depth 0) DELTA) delta)) where
     unchanged_is : unchanged G s.node s.below ≡ same
@@ -182,12 +179,12 @@ module _ (w path : List ℕ) (x : Prover) (phi delta : ℕ) (g : Ascending w pat
         ∙ sym same_is
 
     -- Unchanged: it is where the climb ends
-    pub turn_same : same ≡ true → (k : Ascent) → (k.going ≡ false) × (k.prover ≡ x) → Ascended w path x phi delta g w k
+    pub turn_same : same ≡ true → Ascended w path x phi delta g w (Break x)
     turn_same t = ended w (λ j l. refl) x (subst (Stands g.rule g.side w path g.ps x) (sym (climb_stay G s.counts s.node s.below s.above (unchanged_is ∙ t)) ∙ g.going.leads) g.going.stands)
 
     module _ (changed : same ≡ false) (v : List ℕ) (r : Prover) (q : Stored w path x phi delta g v r) where
       -- Changed, at the root
-      pub turn_root : r.depth ≡ 0 → (k : Ascent) → (k.going ≡ false) × (k.prover ≡ r) → Ascended w path x phi delta g v k
+      pub turn_root : r.depth ≡ 0 → Ascended w path x phi delta g v (Break r)
       unfolding store
       turn_root z = ended v q.past r (subst (Stands g.rule g.side v path g.ps r)
           (sym (climb_top G s.counts s.node s.below s.above (depth_is q.stands ∙ z) (unchanged_is ∙ changed)) ∙ g.going.leads) q.stands)
@@ -226,11 +223,11 @@ module _ (w path : List ℕ) (x : Prover) (phi delta : ℕ) (g : Ascending w pat
           go [] e = absurd (z (sym (depth_is q.stands) ∙ ap length e))
           go (a ∷ up) e = seen old o a up e
 
-      pub turn_up : (old : ℕ) → old ≡ word w (get_or path x.depth 0) PHI → (r.depth ≡ 0 → ⊥) → (k : Ascent) → Raises v path r (get_or path x.depth 0) old phi delta k → Ascended w path x phi delta g v k
+      pub turn_up : (old : ℕ) → old ≡ word w (get_or path x.depth 0) PHI → (r.depth ≡ 0 → ⊥) → (k : Ascent) → Raises v path r (get_or path x.depth 0) old phi delta k → Ascended w path x phi delta g v (Continue k)
       unfolding store seen
       turn_up old o z k f = go s.above refl
         where
-          go : (l : List (Ancestor Position)) → s.above ≡ l → Ascended w path x phi delta g v k
+          go : (l : List (Ancestor Position)) → s.above ≡ l → Ascended w path x phi delta g v (Continue k)
           go [] e = absurd (z (sym (depth_is q.stands) ∙ ap length e))
           go (a ∷ up) e =
               let t = store G s.counts s.above s.node s.below in
@@ -238,7 +235,7 @@ module _ (w path : List ℕ) (x : Prover) (phi delta : ℕ) (g : Ascending w pat
               let n = renumber G s.node s.below in
               let long = ap length e in
               let there = append a.before (child t.node t.below a.after) in
-              let on : Going g.rule g.side v path g.ps k.prover k.phi k.delta g.whole = record {
+              let on : Going g.rule g.side v path g.ps k.prover k.bounds.phi k.bounds.delta g.whole = record {
                 at = state t.counts up a.node there;
                 stands = d.stands;
                 phi_is = d.phi_is;
@@ -249,16 +246,8 @@ module _ (w path : List ℕ) (x : Prover) (phi delta : ℕ) (g : Ascending w pat
                 disproved_room = omega (arith, g.going.disproved_room, zeros_le (disproof_of G n));
                 leads = sym (climb_next G s.counts s.node s.below a up (unchanged_is ∙ changed)) ∙ ap (λ (l : List (Ancestor Position)). climb G l s.counts s.node s.below) (sym e) ∙ g.going.leads;
               } in
-              record {
-                way = subst (λ (b : Bool). Way b g.rule g.side v path g.ps k.prover k.phi k.delta g.whole) (sym d.going_is) on;
-                less = omega (arith, ap (λ (b : Bool). cond b (suc k.prover.depth) 0) d.going_is, depth_is d.stands, depth_is g.going.stands);
-                past = q.past;
-              }
+              record { way = on; less = omega (arith, depth_is d.stands, depth_is g.going.stands); past = q.past }
 
--- While it goes on, and at the end
-module _ (rule : ℕ) (side : Player) (w path ps : List ℕ) (x : Prover) (phi delta : ℕ) (whole : State Position) (going : Bool) (h : Way going rule side w path ps x phi delta whole) where
-  unfoldable pub goes_on : going ≡ true → Ascending w path x phi delta
-  goes_on e = record { rule = rule; side = side; ps = ps; whole = whole; going = subst (λ (b : Bool). Way b rule side w path ps x phi delta whole) e h }
-
-  pub ends : going ≡ false → Stands rule side w path ps x whole
-  ends e = subst (λ (b : Bool). Way b rule side w path ps x phi delta whole) e h
+-- While it goes on
+unfoldable pub goes_on : {rule : ℕ} {side : Player} {w path ps : List ℕ} {x : Prover} {phi delta : ℕ} {whole : State Position} → Going rule side w path ps x phi delta whole → Ascending w path x phi delta
+goes_on {rule} {side} {w} {path} {ps} {x} {phi} {delta} {whole} h = record { rule = rule; side = side; ps = ps; whole = whole; going = h }

@@ -3,11 +3,11 @@ use Rattle.climb.specs.Turns.{turn_same, turn_root, turn_asks, turn_up}
 use Rattle.climb.proofs.climb_step.Goals as goal
 
 pub returns-then-unchanged : goal.returns-then-unchanged
-returns-then-unchanged c = record { room = c.requires.room; ascends = λ g. turn_same _ _ _ _ _ g _ c.unchanged.ensures c.if-unchanged.true _ c.ended.ensures }
+returns-then-unchanged c = record { room = c.requires.room; ascends = λ g. turn_same _ _ _ _ _ g _ c.unchanged.ensures c.if-unchanged.true }
 
 pub returns-then-y-eq0 : goal.returns-then-y-eq0
 returns-then-y-eq0 c =
-    record { room = c.store-y.ensures.room; ascends = λ g. turn_root _ _ _ _ _ g _ c.unchanged.ensures c.if-unchanged.false _ _ (c.store-y.ensures.stores g) c.if-y-eq0.true _ c.ended-then-y-eq0.ensures }
+    record { room = c.store-y.ensures.room; ascends = λ g. turn_root _ _ _ _ _ g _ c.unchanged.ensures c.if-unchanged.false _ _ (c.store-y.ensures.stores g) c.if-y-eq0.true }
 
 pub ascend-requires : goal.ascend-requires
 ascend-requires c =
