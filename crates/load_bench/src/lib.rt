@@ -42,11 +42,8 @@ pub fn bench_cells_from_words(bytes: &[u8]) -> BenchCells
     if bytes.len() < RECORD_LENGTH {
         return no_cells();
     }
-    let read = Cells::from(cells::record_words(bytes));
-    BenchCells {
-        words: read.words,
-        rest: read.rest,
-    }
+    let Cells { words, rest } = cells::from_words(cells::record_words(bytes));
+    BenchCells { words, rest }
 }
 
 // The same cells, bit by bit.
@@ -57,11 +54,8 @@ pub fn bench_cells_bit_by_bit(bytes: &[u8]) -> BenchCells
     if bytes.len() < RECORD_LENGTH {
         return no_cells();
     }
-    let read = cells::bits::cells(bytes);
-    BenchCells {
-        words: read.words,
-        rest: read.rest,
-    }
+    let Cells { words, rest } = cells::bits::cells(bytes);
+    BenchCells { words, rest }
 }
 
 // Checks 1 to 6 and the position's words, as `record::load_to_6` but for the reading, which is bit by bit.
@@ -104,10 +98,10 @@ fn bench_loaded(loaded: Result<Game, Refusal>) -> BenchLoaded
     ensures words { IfOk loaded (λ g. result.words ≡ g.words) }
 {
     match loaded {
-        Ok(game) => BenchLoaded {
-            code: 0,
-            words: game.words,
-        },
+        Ok(game) => {
+            let words = game.words;
+            BenchLoaded { code: 0, words }
+        }
         Err(refusal) => BenchLoaded {
             code: refusal.number() as u32,
             words: [0; 23],

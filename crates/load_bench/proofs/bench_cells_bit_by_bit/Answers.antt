@@ -6,4 +6,4 @@ pub returns-then-bytes-lt-RECORD_LENGTH : goal.returns-then-bytes-lt-RECORD_LENG
 returns-then-bytes-lt-RECORD_LENGTH c = (λ h. absurd (omega (arith, c.if-bytes-lt-RECORD_LENGTH.true)), λ h. c.no_cells.ensures)
 
 pub returns : goal.returns
-returns c = (λ h. c.cells-read.ensures, λ h. absurd (omega (arith, c.if-bytes-lt-RECORD_LENGTH.false)))
+returns c = (λ h. c.cells-rest.ensures, λ h. absurd (omega (arith, c.if-bytes-lt-RECORD_LENGTH.false)))

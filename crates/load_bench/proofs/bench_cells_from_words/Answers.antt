@@ -8,6 +8,6 @@ returns-then-bytes-lt-RECORD_LENGTH c = (λ h. absurd (omega (arith, c.if-bytes-
 
 pub returns : goal.returns
 returns c = (
-  λ h. words_read _ (λ k. (c.shared_slice_known-1.given k).fits) _ c.record_words.ensures _ c.from-read.ensures,
+  λ h. words_read _ (λ k. (c.type_inv.bytes k).fits) _ c.record_words.ensures _ c.from_words-rest.ensures,
   λ h. absurd (omega (arith, c.if-bytes-lt-RECORD_LENGTH.false)),
 )

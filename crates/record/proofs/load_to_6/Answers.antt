@@ -8,12 +8,9 @@ use Rattle.cells.specs.Reading.{CellsRead}
 use Rattle.cells.proofs.WordLaws.{side_in, target_in, last_in}
 use Rattle.cells.proofs.CellLaws.{words_read}
 use Rattle.record.specs.Reading.{FieldsRead}
-use Rattle.record.specs.Loading.{refused_1, refused_2, refused_later, fields, some_fields}
-use Rattle.record.proofs.load_to_6.Goals.{After-from, After-record_words-w}
+use Rattle.record.specs.Loading.{refused_2, refused_later, fields, some_fields}
+use Rattle.record.proofs.load_to_6.Goals.{After-from_words, After-record_words-w}
 use Rattle.record.proofs.load_to_6.Goals as goal
-
-pub returns-then-bytes-ne-RECORD_LENGTH-clause-code : goal.returns-then-bytes-ne-RECORD_LENGTH-clause-code
-returns-then-bytes-ne-RECORD_LENGTH-clause-code c = refused_1 c.args.bytes.now c.if-bytes-ne-RECORD_LENGTH.true
 
 -- the last bit, as the third word has it
 abbrev last : (c : After-record_words-w) → c.record_words-w.result.third % 2 ≡ bit_at c.args.bytes.now 167
@@ -21,7 +18,7 @@ last c = ap (λ w. w.third % 2) c.record_words-w.ensures ∙ last_in _ (λ k. (c
 
 pub returns-then-w-ne0-clause-code : goal.returns-then-w-ne0-clause-code
 returns-then-w-ne0-clause-code c =
-    refused_2 _ c.if-bytes-ne-RECORD_LENGTH.false (λ z. c.if-w-ne0.true (last (goal.at.returns-then-w-ne0-clause-code c).After-record_words-w ∙ z))
+    refused_2 _ (omega arith) (λ z. c.if-w-ne0.true (last (goal.at.returns-then-w-ne0-clause-code c).After-record_words-w ∙ z))
 
 abbrev read : (c : After-from) → CellsRead (position_of c.args.bytes.now).cells c.from.result
 read c = words_read _ (λ k. (c.type_inv.bytes k).fits) _ c.record_words-w.ensures _ c.from.ensures
@@ -41,8 +38,8 @@ pub returns-clause-code : goal.returns-clause-code
 unfolding fields
 returns-clause-code c =
     let at = goal.at.returns-clause-code c in
-    c.load_fields.ensures.code (all_read at.After-from)
-    ∙ refused_later _ c.if-bytes-ne-RECORD_LENGTH.false (sym (last at.After-record_words-w) ∙ c.if-w-ne0.false)
+    c.load_fields.ensures.code (all_read at.After-from_words)
+    ∙ refused_later _ (omega arith) (sym (last at.After-record_words-w) ∙ c.if-w-ne0.false)
 
 pub returns-clause-position : goal.returns-clause-position
 unfolding fields
