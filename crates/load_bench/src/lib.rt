@@ -25,12 +25,17 @@ pub struct BenchCells {
 }
 
 // For fewer than 21 bytes.
-fn no_cells() -> BenchCells
-    ensures { (result.words ≡ replicate 23 0) × (result.rest ≡ 0) }
-{
-    BenchCells {
-        words: [0; 23],
-        rest: 0,
+const NO_CELLS: BenchCells = BenchCells {
+    words: [0; 23],
+    rest: 0,
+};
+
+impl From<Cells> for BenchCells {
+    ghost from_gives = { λ read r. (r.words ≡ read.words) × (r.rest ≡ read.rest) };
+
+    fn from(read: Cells) -> BenchCells {
+        let Cells { words, rest } = read;
+        BenchCells { words, rest }
     }
 }
 
@@ -40,10 +45,9 @@ pub fn bench_cells_from_words(bytes: &[u8]) -> BenchCells
         × (length bytes.now < 21 → (result.words ≡ replicate 23 0) × (result.rest ≡ 0)) }
 {
     if bytes.len() < RECORD_LENGTH {
-        return no_cells();
+        return NO_CELLS;
     }
-    let Cells { words, rest } = cells::from_words(cells::record_words(bytes));
-    BenchCells { words, rest }
+    cells::from_words(cells::record_words(bytes)).into()
 }
 
 // The same cells, bit by bit.
@@ -52,10 +56,9 @@ pub fn bench_cells_bit_by_bit(bytes: &[u8]) -> BenchCells
         × (length bytes.now < 21 → (result.words ≡ replicate 23 0) × (result.rest ≡ 0)) }
 {
     if bytes.len() < RECORD_LENGTH {
-        return no_cells();
+        return NO_CELLS;
     }
-    let Cells { words, rest } = cells::bits::cells(bytes);
-    BenchCells { words, rest }
+    cells::bits::cells(bytes).into()
 }
 
 // Checks 1 to 6 and the position's words, as `record::load_to_6` but for the reading, which is bit by bit.
@@ -92,31 +95,31 @@ pub struct BenchLoaded {
     pub words: [u16; 23],
 }
 
-// A load, as C has it.
-fn bench_loaded(loaded: Result<Game, Refusal>) -> BenchLoaded
-    ensures code { result.code ≡ refusal_code loaded }
-    ensures words { IfOk loaded (λ g. result.words ≡ g.words) }
-{
-    match loaded {
-        Ok(game) => {
-            let words = game.words;
-            BenchLoaded { code: 0, words }
+impl From<Result<Game, Refusal>> for BenchLoaded {
+    ghost from_gives = { λ loaded r. (r.code ≡ refusal_code loaded) × IfOk loaded (λ g. r.words ≡ g.words) };
+
+    fn from(loaded: Result<Game, Refusal>) -> BenchLoaded {
+        match loaded {
+            Ok(game) => {
+                let words = game.words;
+                BenchLoaded { code: 0, words }
+            }
+            Err(refusal) => BenchLoaded {
+                code: refusal.number() as u32,
+                words: [0; 23],
+            },
         }
-        Err(refusal) => BenchLoaded {
-            code: refusal.number() as u32,
-            words: [0; 23],
-        },
     }
 }
 
 pub fn bench_load(bytes: &[u8]) -> BenchLoaded
     ensures { (result.code ≡ refusal bytes.now) × (result.code ≡ 0 → Holds (position_of bytes.now) result.words 0) }
 {
-    bench_loaded(record::load(bytes))
+    record::load(bytes).into()
 }
 
 pub fn bench_load_bit_by_bit(bytes: &[u8]) -> BenchLoaded
     ensures { (result.code ≡ refusal bytes.now) × (result.code ≡ 0 → Holds (position_of bytes.now) result.words 0) }
 {
-    bench_loaded(load_bit_by_bit(bytes))
+    load_bit_by_bit(bytes).into()
 }

@@ -2,8 +2,5 @@
 use native.Mathlib.Omega.{arith}
 use Rattle.load_bench.proofs.bench_cells_bit_by_bit.Goals as goal
 
-pub returns-then-bytes-lt-RECORD_LENGTH : goal.returns-then-bytes-lt-RECORD_LENGTH
-returns-then-bytes-lt-RECORD_LENGTH c = (λ h. absurd (omega (arith, c.if-bytes-lt-RECORD_LENGTH.true)), λ h. c.no_cells.ensures)
-
 pub returns : goal.returns
-returns c = (λ h. c.cells-rest.ensures, λ h. absurd (omega (arith, c.if-bytes-lt-RECORD_LENGTH.false)))
+returns c = (λ h. rw (c.into.ensures.0, c.into.ensures.1) c.cells.ensures, λ h. absurd (omega (arith, c.if-bytes-lt-RECORD_LENGTH.false)))

@@ -3,11 +3,10 @@ use native.Mathlib.Omega.{arith}
 use Rattle.cells.proofs.CellLaws.{words_read}
 use Rattle.load_bench.proofs.bench_cells_from_words.Goals as goal
 
-pub returns-then-bytes-lt-RECORD_LENGTH : goal.returns-then-bytes-lt-RECORD_LENGTH
-returns-then-bytes-lt-RECORD_LENGTH c = (λ h. absurd (omega (arith, c.if-bytes-lt-RECORD_LENGTH.true)), λ h. c.no_cells.ensures)
-
 pub returns : goal.returns
 returns c = (
-  λ h. words_read _ (λ k. (c.type_inv.bytes k).fits) _ c.record_words.ensures _ c.from_words-rest.ensures,
+  λ h.
+      rw (c.into.ensures.0, c.into.ensures.1)
+      (words_read _ (λ k. (c.type_inv.bytes k).fits) _ c.record_words.ensures _ c.from_words.ensures),
   λ h. absurd (omega (arith, c.if-bytes-lt-RECORD_LENGTH.false)),
 )
