@@ -47,7 +47,7 @@ pub fn bench_cells_from_words(bytes: &[u8]) -> BenchCells
     if bytes.len() < RECORD_LENGTH {
         return NO_CELLS;
     }
-    cells::from_words(cells::record_words(bytes)).into()
+    Cells::from(cells::record_words(bytes)).into()
 }
 
 // The same cells, bit by bit.

@@ -7,6 +7,6 @@ pub returns : goal.returns
 returns c = (
   λ h.
       rw (c.into.ensures.0, c.into.ensures.1)
-      (words_read _ (λ k. (c.type_inv.bytes k).fits) _ c.record_words.ensures _ c.from_words.ensures),
+      (words_read _ (λ k. (c.type_inv.bytes k).fits) _ c.record_words.ensures _ c.from.ensures),
   λ h. absurd (omega (arith, c.if-bytes-lt-RECORD_LENGTH.false)),
 )
