@@ -214,7 +214,7 @@ pub fn load_to_6(bytes: &[u8]) -> Result<Game, Refusal>
     }
     let target = ((w.first >> 59) % 16) as u8;
     let side = (w.first >> 63) as u8;
-    load_fields(w.into(), target, side)
+    load_fields(Cells::from(w), target, side)
 }
 
 // What check 22 looks for, in a position's words: a cell is taken, no board is done, and the choice is free.
