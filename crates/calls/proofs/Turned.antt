@@ -1,7 +1,7 @@
 -- The calls by the check that decides: refused by a check, or answered. Rests on Calls and Refusing.
 use Rattle.std.specs.Prelude.{◌≡◌, refl, Bool, cond, List, [], ◌∷◌, ◌++◌, ltb, length, drop}
-use Rattle.std.proofs.Common.{sym, arith}
-use Prim.Native.Nat.{ℕ, zero, suc, ◌≤◌}
+use Rattle.std.proofs.Common.{sym, ◌∙◌, arith, le-ltb, lt-ltb}
+use Prim.Native.Nat.{ℕ, zero, suc, ◌≤◌, ◌<◌}
 use Rattle.rules.specs.Rules.{Position, Replayed, replay, legal_moves}
 use Rattle.rules.specs.Rules.Replayed.{Reached, BadMove}
 use Rattle.rules.specs.Record.{position_of, record_of, refusal}
@@ -13,7 +13,21 @@ use Rattle.calls.specs.Calls.{last_rule, most_open, answer_unless, output_refusa
 use Rattle.calls.specs.Calls.{RefereeOutcome, referee_outcome, referee_refusal, referee_call}
 use Rattle.calls.proofs.Refusing.{passes_test, refused_by, passed_all}
 
--- what passing the checks of the record and 7 tells
+-- the record's checks, and 7 after them
+module _ (bytes : List ℕ) (room needed : ℕ) where
+  pub output_record : (n : ℕ) → n ≡ refusal bytes → (n ≡ 0 → ⊥) → n ≡ output_refusal bytes room needed
+  unfolding output_refusal
+  output_record n e z = rw (← e) (sym (first_refuses n _ z))
+
+  pub output_short : refusal bytes ≡ 0 → room < needed → 7 ≡ output_refusal bytes room needed
+  unfolding output_refusal first_refusal
+  output_short e h = rw (e, lt-ltb room needed h)
+
+  pub output_long : refusal bytes ≡ 0 → needed ≤ room → 0 ≡ output_refusal bytes room needed
+  unfolding output_refusal first_refusal
+  output_long e h = rw (e, le-ltb room needed h)
+
+-- what passing them tells
 pub output_passes : (bytes : List ℕ) (room needed : ℕ) → output_refusal bytes room needed ≡ 0 → (refusal bytes ≡ 0) × (needed ≤ room)
 unfolding output_refusal
 output_passes bytes room needed e = let a = none_refuses _ _ e in (a.0, (passes_test 6 room needed _ a.1).0)
@@ -42,10 +56,10 @@ module _ (bytes : List ℕ) (rule : ℕ) where
   unfolding referee_refusal
   referee_record n e z = rw (← e) (sym (first_refuses n _ z))
 
-  pub referee_late : refusal bytes ≡ 0 → (a b n r : ℕ) → a ≡ refuses 10 (ltb last_rule rule) → n ≡ open_cells (position_of bytes) → b ≡ refuses 16 (ltb most_open n)
-      → r ≡ first_refusal (a ∷ b ∷ []) → r ≡ referee_refusal bytes rule
+  pub referee_late : refusal bytes ≡ 0 → (n r : ℕ) → n ≡ open_cells (position_of bytes)
+      → r ≡ first_refusal (refuses 10 (ltb last_rule rule) ∷ refuses 16 (ltb most_open n) ∷ []) → r ≡ referee_refusal bytes rule
   unfolding referee_refusal
-  referee_late loaded a b n r ea eo eb er = rw (er, ea, eb, eo) (sym (rest_refuses (refusal bytes) _ loaded))
+  referee_late loaded n r eo er = er ∙ rw eo (sym (rest_refuses (refusal bytes) _ loaded))
 
   pub referee_refused : (n : ℕ) → n ≡ referee_refusal bytes rule → (n ≡ 0 → ⊥) → referee_outcome n 0 0 ≡ referee_call bytes rule
   unfolding referee_call

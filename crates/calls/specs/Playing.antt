@@ -1,10 +1,9 @@
 -- Moves made one after the other by the code, against the rules' replay: what the loop has made so far, and its end. Rests on the rules, game's Words and Moves.
-use Rattle.std.specs.Prelude.{◌≡◌, List, ℕ, ◌<◌, length, get_or, take}
+use Rattle.std.specs.Prelude.{◌≡◌, List, ℕ, ◌<◌, length, get_or, take, Result, Ok, Err}
 use Rattle.rules.specs.Rules.{Position, move_error, replay}
 use Rattle.rules.specs.Rules.Replayed.{Reached}
 use Rattle.game.specs.Numbers.{error_number}
-use Rattle.game.specs.declared.MoveResult.{MoveResult}
-use Rattle.game.specs.declared.MoveResult.TheVariants.{Ok, Err}
+use Rattle.game.specs.declared.MoveError.{MoveError}
 use Rattle.game.specs.Words.{Holds}
 use Rattle.calls.specs.declared.Line.{Line}
 
@@ -15,12 +14,12 @@ pub record Place (p : Position) (ms ws : List ℕ) (n : ℕ) : Type 0 where
   pub made : replay p (take n ms) 0 ≡ Reached pos
 
 -- why no more than n were made: there are no more, or the next one is bad
-abbrev pub EndsBy : Position → List ℕ → ℕ → MoveResult → Type 0
-EndsBy q ms n Ok = n ≡ length ms
+abbrev pub EndsBy : Position → List ℕ → ℕ → Result (Unit {0}) MoveError → Type 0
+EndsBy q ms n (Ok u) = n ≡ length ms
 EndsBy q ms n (Err e) = (n < length ms) × (move_error q (get_or ms n 0) ≡ error_number e)
 
 -- the moves ms from p, made up to the first bad one
-pub record PlayedBy (p : Position) (ms : List ℕ) (n : ℕ) (ws : List ℕ) (r : MoveResult) : Type 0 where
+pub record PlayedBy (p : Position) (ms : List ℕ) (n : ℕ) (ws : List ℕ) (r : Result (Unit {0}) MoveError) : Type 0 where
   pub place : Place p ms ws n
   pub ends : EndsBy place.pos ms n r
 

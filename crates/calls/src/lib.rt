@@ -2,21 +2,20 @@
 
 #![tactic(auto)]
 
-ghost use Rattle.std.specs.Prelude.{◌≡◌, ◌≤◌, length};
-ghost use Rattle.rules.specs.Rules.{Position, legal_moves, replay};
+ghost use Rattle.std.specs.Prelude.{◌≡◌, ◌≤◌, IfOk, length};
+ghost use Rattle.rules.specs.Rules.{Position, legal_moves};
 ghost use Rattle.rules.specs.Record.{position_of};
-ghost use Rattle.game.specs.Lines.{line_table};
+ghost use Rattle.refusals.specs.Numbers.{refusal_code};
 ghost use Rattle.game.specs.Words.{Holds, Held};
-ghost use Rattle.calls.specs.Calls.{after_moves, output_refusal, replay_call, moves_call, referee_call};
+ghost use Rattle.calls.specs.declared.ReplayError.TheVariants.{Refused};
+ghost use Rattle.calls.specs.Calls.{output_refusal, replay_call, moves_call, referee_call};
 ghost use Rattle.calls.specs.Answers.{replayed, listing, refereed};
 ghost use Rattle.calls.specs.Playing.{Played};
 ghost use Rattle.calls.specs.Writing.{Written};
 
-use game::cursor::{MoveIterator, Step};
-use game::{Game, Move, MoveError, MoveResult};
-use record::Loaded;
-
-pub mod refusals;
+use game::cursor::MoveIterator;
+use game::{Game, Move, MoveError};
+use refusals::Refusal;
 
 // The shortest output that takes a record, and the shortest that takes every legal move.
 pub const RECORD_LENGTH: usize = 21;
@@ -28,159 +27,111 @@ pub const LAST_RULE: u64 = 2;
 
 const MOST_OPEN: usize = 9;
 
-// The answer of replay: the record is written, or a check refused it, or a move is bad, with its index.
-#[derive(Clone, Copy)]
-pub enum Replayed {
-    Done,
-    Refused(u8),
+// Why replay is turned back: a check refuses it, or a move is bad, with its index.
+#[derive(Clone, Copy, PartialEq, Eq)]
+pub enum ReplayError {
+    Refused(Refusal),
     BadMove(MoveError, usize),
 }
 
-// The answer of legal moves: their count, or the check that turned the call back.
-#[derive(Clone, Copy)]
-pub enum Listed {
-    Count(usize),
-    Turned(u8),
-}
+impl From<Refusal> for ReplayError {
+    ghost from_gives = { λ r e. e ≡ Refused r };
 
-// The answer of referee: the value for the side to move, or the check that turned the call back.
-#[derive(Clone, Copy)]
-pub enum Refereed {
-    Value(bool),
-    Declined(u8),
+    fn from(refusal: Refusal) -> ReplayError {
+        ReplayError::Refused(refusal)
+    }
 }
 
 // Moves made one after the other: the result of the last one tried, how many were made (a bad one has that index), and the position after them.
 #[derive(Clone, Copy)]
 pub struct Line {
-    pub result: MoveResult,
+    pub result: Result<(), MoveError>,
     pub count: usize,
     pub game: Game,
 }
 
 // Makes the moves, up to the first bad one.
-pub fn play_line(table: &[u8; 512], start: Game, moves: &[u8]) -> Line
-    requires { (table.now ≡ line_table) × Held start.words 0 }
+pub fn play_line(start: Game, moves: &[u8]) -> Line
+    requires { Held start.words 0 }
     ensures { (p : Position) → Holds p start.words 0 → Played p moves.now result }
 {
     let mut game = start;
-    let mut i: usize = 0;
-    while i < moves.len() {
-        let made = game.make_move(table, Move(moves[i]));
-        let result = made.result;
-        game = made.game;
-        if let MoveResult::Err(_) = result {
-            return Line {
-                result,
-                count: i,
-                game,
-            };
+    for (count, &m) in moves.iter().enumerate() {
+        match game.make_move(Move(m)) {
+            Ok(next) => game = next,
+            Err(e) => {
+                return Line {
+                    result: Err(e),
+                    count,
+                    game,
+                };
+            }
         }
-        i += 1;
     }
     Line {
-        result: MoveResult::Ok,
-        count: i,
+        result: Ok(()),
+        count: moves.len(),
         game,
     }
 }
 
 // Writes the legal moves from the front of the output on, and counts them.
-pub fn write_moves(table: &[u8; 512], words: &[u16], out: &mut [u8]) -> usize
-    requires { (table.now ≡ line_table) × Held words.now 0 × (81 ≤ length out.old) }
+pub fn write_moves(words: &[u16], out: &mut [u8]) -> usize
+    requires { Held words.now 0 × (81 ≤ length out.old) }
     ensures { (p : Position) → Holds p words.now 0 → Written (legal_moves p) out.old out.new result }
 {
-    let mut cursor = MoveIterator::from_game(table, words, 0);
-    let mut n: usize = 0;
-    loop {
-        let step = cursor.next(words, 0);
-        match step {
-            Step::Next(m, rest) => {
-                out[n] = m.0;
-                n += 1;
-                cursor = rest;
-            }
-            Step::End => return n,
-        }
+    let mut moves = MoveIterator::from_game(words, 0);
+    let mut n = 0;
+    while let Some(m) = moves.next(words, 0) {
+        out[n] = m.0;
+        n += 1;
     }
+    n
 }
 
-// Replays moves from a position and writes the record afterwards.
-fn replay_from(start: Game, moves: &[u8], out: &mut [u8]) -> Replayed
-    requires { Held start.words 0 × (21 ≤ length out.old) }
-    ensures { (p : Position) → Holds p start.words 0 → replayed result out.new ≡ after_moves (replay p moves.now 0) out.old }
+// The checks of the record and 7 of a call whose output has so much room.
+fn load_for(bytes: &[u8], room: usize, needed: usize) -> Result<Game, Refusal>
+    ensures code { refusal_code result ≡ output_refusal bytes.now room needed }
+    ensures position { IfOk result (λ g. Holds (position_of bytes.now) g.words 0) }
 {
-    let table = game::line_table();
-    let line = play_line(&table, start, moves);
-    let result = line.result;
-    match result {
-        MoveResult::Ok => {
-            let game = line.game;
-            record::store(out, game);
-            Replayed::Done
-        }
-        MoveResult::Err(e) => Replayed::BadMove(e, line.count),
+    let game = record::load(bytes)?;
+    if room < needed {
+        return Err(Refusal::ShortOutput);
     }
-}
-
-// The checks of the record and 7 of a call whose output has so much room: 0 and the position, or the number of the first that refuses.
-fn load_for(bytes: &[u8], room: usize, needed: usize) -> Loaded
-    ensures { (result.code ≡ output_refusal bytes.now room needed) × (result.code ≡ 0 → Holds (position_of bytes.now) result.game.words 0) }
-{
-    let loaded = record::load(bytes);
-    let start = loaded.game;
-    let checks = [loaded.code, refusals::refuses(7, room < needed)];
-    Loaded {
-        code: refusals::first(&checks),
-        game: start,
-    }
+    Ok(game)
 }
 
 // Replays moves from a record and writes the record afterwards.
-pub fn replay(bytes: &[u8], moves: &[u8], out: &mut [u8]) -> Replayed
+pub fn replay(bytes: &[u8], moves: &[u8], out: &mut [u8]) -> Result<(), ReplayError>
     ensures { replayed result out.new ≡ replay_call bytes.now moves.now out.old }
 {
-    let room = out.len();
-    let loaded = load_for(bytes, room, RECORD_LENGTH);
-    if loaded.code != 0 {
-        return Replayed::Refused(loaded.code);
+    let start = load_for(bytes, out.len(), RECORD_LENGTH)?;
+    let line = play_line(start, moves);
+    match line.result {
+        Ok(()) => Ok(record::store(out, line.game)),
+        Err(e) => Err(ReplayError::BadMove(e, line.count)),
     }
-    let start = loaded.game;
-    replay_from(start, moves, out)
 }
 
-// Lists the legal moves of a record.
-pub fn legal_moves(bytes: &[u8], out: &mut [u8]) -> Listed
+// Lists the legal moves of a record, and counts them.
+pub fn legal_moves(bytes: &[u8], out: &mut [u8]) -> Result<usize, Refusal>
     ensures { listing result out.new ≡ moves_call bytes.now out.old }
 {
-    let loaded = load_for(bytes, out.len(), MOVES_LENGTH);
-    if loaded.code != 0 {
-        return Listed::Turned(loaded.code);
-    }
-    let game = loaded.game;
-    let words = game.words;
-    let table = game::line_table();
-    Listed::Count(write_moves(&table, &words, out))
+    let game = load_for(bytes, out.len(), MOVES_LENGTH)?;
+    Ok(write_moves(&game.words, out))
 }
 
 // The value of a small ending by going through everything that can follow.
-pub fn referee(bytes: &[u8], rule: u64) -> Refereed
+pub fn referee(bytes: &[u8], rule: u64) -> Result<bool, Refusal>
     ensures { refereed result ≡ referee_call bytes.now rule }
 {
-    let loaded = record::load(bytes);
-    if loaded.code != 0 {
-        return Refereed::Declined(loaded.code);
-    }
-    let pos = loaded.game;
-    let words = pos.words;
-    let checks = [
-        refusals::refuses(10, rule > LAST_RULE),
-        refusals::refuses(16, referee::open_cells(&words, 0) > MOST_OPEN),
-    ];
-    let code = refusals::first(&checks);
-    if code != 0 {
-        return Refereed::Declined(code);
-    }
-    let table = game::line_table();
-    Refereed::Value(referee::value(&table, pos, rule))
+    let pos = record::load(bytes)?;
+    refusals::first(&[
+        (rule > LAST_RULE, Refusal::Range),
+        (
+            referee::open_cells(&pos.words, 0) > MOST_OPEN,
+            Refusal::ManyOpenCells,
+        ),
+    ])?;
+    Ok(referee::value(pos, rule))
 }

@@ -1,10 +1,17 @@
--- `calls::load_for` meets its contract, check by check. Assumes nothing.
-use mathlib.Core.Path.{sym, ◌∙◌}
-use Rattle.rules.proofs.RefusalLaws.{none_refuses}
-use Rattle.calls.specs.Calls.{output_refusal}
+-- `calls::load_for` meets its contract: refused by a check, or loaded. Assumes nothing.
+use Rattle.std.proofs.Common.{sym}
+use Rattle.std.proofs.lemmas.Result.{err_from_is_err_and}
+use Rattle.refusals.proofs.Passes.{number_positive}
+use Rattle.calls.proofs.Turned.{output_record, output_short, output_long}
 use Rattle.calls.proofs.load_for.Goals as goal
 
-pub returns : goal.returns
-unfolding output_refusal
-returns c =
-    (rw (c.first.ensures, c.load-loaded.ensures.0, c.refuses.ensures), λ z. c.load-loaded.ensures.1 (none_refuses _ _ (sym c.first.ensures ∙ z)).0)
+pub returns-in_err-game-clause-code : goal.returns-in_err-game-clause-code
+returns-in_err-game-clause-code c =
+    let p = err_from_is_err_and c.from_residual.result c.from_residual.ensures.1 in
+    rw (p.1, p.2) (output_record _ _ _ _ c.in_err-game.ensures.code (number_positive _))
+
+pub returns-then-room-needed-clause-code : goal.returns-then-room-needed-clause-code
+returns-then-room-needed-clause-code c = output_short _ _ _ (sym c.in_ok-game.ensures.code) c.if-room-needed.true
+
+pub returns-clause-code : goal.returns-clause-code
+returns-clause-code c = output_long _ _ _ (sym c.in_ok-game.ensures.code) c.if-room-needed.false

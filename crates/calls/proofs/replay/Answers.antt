@@ -1,16 +1,28 @@
 -- `calls::replay` meets its contract: refused by a check, or the moves replayed. Assumes nothing.
-use mathlib.Core.Path.{sym, ◌∙◌}
+use Rattle.std.proofs.Common.{sym, ◌∙◌}
+use Rattle.std.proofs.lemmas.Result.{err_from_is_err_and}
 use Rattle.rules.specs.Record.{position_of}
-use Rattle.calls.proofs.Turned.{output_passes, replay_refused, replay_answered}
+use Rattle.refusals.proofs.Passes.{number_positive}
+use Rattle.calls.proofs.Playing.{played_ok, played_bad}
+use Rattle.calls.proofs.Turned.{output_passes, replay_refused, replay_answered, after_reached, after_bad}
 use Rattle.calls.proofs.replay.Goals as goal
 
-pub returns-then-loaded-ne0 : goal.returns-then-loaded-ne0
-returns-then-loaded-ne0 c = replay_refused _ _ _ _ c.load_for-loaded.ensures.0 c.if-loaded-ne0.true
+pub returns-in_err-start : goal.returns-in_err-start
+returns-in_err-start c =
+    let p = err_from_is_err_and c.from_residual.result c.from_residual.ensures.1 in
+    rw (p.1, p.2) (replay_refused _ _ _ _ c.in_err-start.ensures.code (number_positive _))
 
-pub replay_from-requires : goal.replay_from-requires
-replay_from-requires c =
-    ((position_of _, c.load_for-loaded.ensures.1 c.if-loaded-ne0.false), (output_passes _ _ _ (sym c.load_for-loaded.ensures.0 ∙ c.if-loaded-ne0.false)).1)
+pub store-requires : goal.store-requires
+store-requires c =
+    let q = played_ok _ _ _ _ _ (c.play_line-line.ensures (position_of _) c.in_ok-start.ensures.position) _ c.in-Ok.is in
+    ((output_passes _ _ _ (sym c.in_ok-start.ensures.code)).1, (q.0, q.1))
 
-pub returns : goal.returns
-returns c =
-    c.replay_from.ensures _ (c.load_for-loaded.ensures.1 c.if-loaded-ne0.false) ∙ replay_answered _ _ _ (sym c.load_for-loaded.ensures.0 ∙ c.if-loaded-ne0.false)
+pub returns-in-Ok : goal.returns-in-Ok
+returns-in-Ok c =
+    let q = played_ok _ _ _ _ _ (c.play_line-line.ensures (position_of _) c.in_ok-start.ensures.position) _ c.in-Ok.is in
+    after_reached _ _ _ _ q.2 (c.store.ensures q.0 q.1) ∙ replay_answered _ _ _ (sym c.in_ok-start.ensures.code)
+
+pub returns-in-Err : goal.returns-in-Err
+returns-in-Err c =
+    after_bad _ _ _ _ (played_bad _ _ _ _ _ (c.play_line-line.ensures (position_of _) c.in_ok-start.ensures.position) _ c.in-Err.is)
+    ∙ replay_answered _ _ _ (sym c.in_ok-start.ensures.code)
