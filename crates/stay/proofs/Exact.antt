@@ -1,16 +1,18 @@
 -- Sums, products and comparisons of floats that are fractions of whole numbers: where 53 digits are enough nothing is rounded. Rests on Margin and Steps.
-use Rattle.std.specs.Prelude.{ℕ, ◌+◌, ◌-◌, ◌*◌, ◌^◌, ◌<◌, ◌≤◌, ◌≡◌, refl, Bool, true, false, ◌&&◌, ◌||◌, pos, ℤ, Float}
+use Rattle.std.specs.Prelude.{ℕ, zero, suc, ◌+◌, ◌-◌, ◌*◌, ◌^◌, ◌<◌, ◌≤◌, ◌≡◌, refl, Bool, true, false, ◌&&◌, ◌||◌, pos, ℤ, Float}
 use Rattle.std.proofs.Common.{ap, sym, subst, ◌∙◌, true≢false, add-mul, zero-mul, mul_right_comm, mul-pos, mul_assoc, mul-one, mul_comm, mul-lt-mul_of_pos_right, lt_of_lt_of_le, lt_of_le_of_lt, le_of_lt, mul-le-mul, arith, lt-ltb, le-ltb, eqb-true, eq-eqb, ne_eqb, le-leb, pow_pos}
 use Rattle.std.specs.Bool.{beq}
 use Rattle.std.proofs.Math.Nat.{eq_of_mul-eq-mul_right, mul-mul-mul_comm}
+use Rattle.std.proofs.Math.Bool.{or-true}
 use Rattle.std.proofs.Math.Decide.{dec_le, ℕ_discrete}
 use Rattle.std.proofs.lemmas.Bool.{lt-leb}
 use lib.Dec.{eqb, ltb, lit<, leb}
 use Rattle.std.specs.Float.Ieee as Ieee
 use Rattle.std.specs.Float.{nan, inf, fin, binary64}
 use Rattle.std.specs.Float.Ieee.{up, down, round, sum, add, mul, eq, le, of_int}
-use Rattle.stay.specs.Margin.{IsAt}
-use Rattle.stay.proofs.Steps.{both}
+use Rattle.std.specs.List.{list_any, range_with_len}
+use Rattle.stay.specs.Margin.{steps_in, is_margin, IsAt}
+use Rattle.stay.proofs.Steps.{both, margin_at, at_margin}
 use Rattle.std.specs.Float.Ieee.Exact.{HasValue, round_exact}
 use Rattle.std.specs.Float.Ieee.Back.{round_whole}
 use Rattle.std.specs.Float.Ieee.Fits.{down_pos}
@@ -183,3 +185,27 @@ pub steps : (k : ℕ) → k ≤ 256 → HasValue (mul binary64 (of_int binary64 
 steps k l =
     subst (λ (z : ℕ). HasValue (mul binary64 (of_int binary64 (pos k)) (Ieee.of_bits binary64 4571153621781053440)) false z 256) (mul-one k)
     (product (of_int binary64 (pos k)) (Ieee.of_bits binary64 4571153621781053440) k 1 (whole k (omega arith)) part (omega arith))
+
+-- A float is a margin exactly if it passes one of the tests: it equals k / 256 for a k of at most 256
+abbrev pub test_at : Float → ℕ → Bool
+test_at x k = eq x (mul binary64 (of_int binary64 (pos k)) (Ieee.of_bits binary64 4571153621781053440))
+
+one_of : (f : ℕ → Bool) (a n k : ℕ) → a ≤ k → k < a + n → f k ≡ true → list_any f (range_with_len a n) ≡ true
+one_of f a zero k l h e = absurd (omega arith)
+one_of f a (suc n) k l h e =
+    elim (ℕ_discrete a k) [ yes q ↦ rw (q, e) | no q ↦ rw (one_of f (a + 1) n k (omega (arith, q)) (omega arith) e) (or-true (f a)) ]
+
+none_of : (f : ℕ → Bool) (a n : ℕ) → ((k : ℕ) → a ≤ k → k < a + n → f k ≡ false) → list_any f (range_with_len a n) ≡ false
+none_of f a zero h = refl
+none_of f a (suc n) h = let e = h a (omega arith) (omega arith) in rw e (none_of f (a + 1) n (λ k l m. h k (omega arith) (omega arith)))
+
+pub any_margin : (x : Float) (n : ℕ) → n ≡ 257 → list_any (test_at x) (range_with_len 0 n) ≡ is_margin x
+any_margin x n e = go (is_margin x) refl
+  where
+    go : (b : Bool) → is_margin x ≡ b → list_any (test_at x) (range_with_len 0 n) ≡ b
+    go true m = let p = margin_at x m in one_of (test_at x) 0 n (steps_in x) (omega arith) (omega (arith, p.0)) (at_eq x _ (steps_in x) (steps (steps_in x) p.0) p.1)
+    go false m = none_of (test_at x) 0 n (λ k z l. each k (omega arith) (test_at x k) refl)
+      where
+        each : (k : ℕ) → k < n → (b : Bool) → test_at x k ≡ b → b ≡ false
+        each k l true t = absurd (true≢false (sym (at_margin x k (omega arith) (eq_at x _ k (steps k (omega arith)) t)).0 ∙ m))
+        each k l false t = refl

@@ -6,21 +6,22 @@ ghost use Rattle.std.specs.Prelude.{◌≡◌, true, false, ◌+◌, ◌*◌, �
 ghost use Rattle.std.specs.Float.Ieee.Exact.{HasValue};
 ghost use Rattle.stay.specs.Margin.{steps_in, is_margin, stay_in_range, given};
 
-// Off, or with a margin, as it was given.
+// Off, or with a margin, as it was given. No Option: a rule of the project, document 01, names this enum.
 #[derive(Clone, Copy)]
 pub enum Stay {
     Off,
     Margin(f64),
 }
 
-// From a caller in C: whether to stay, and the margin, which is not read if not.
+// Whether to stay, and the margin, which is not read if not: a flag beside a value, since the C interface needs it.
 pub fn given(staying: bool, margin: f64) -> Stay
     ensures { result ≡ given staying margin }
 {
     if staying {
-        return Stay::Margin(margin);
+        Stay::Margin(margin)
+    } else {
+        Stay::Off
     }
-    Stay::Off
 }
 
 // 1 plus the margin: no digit is lost.
@@ -43,14 +44,7 @@ pub fn within(phi: u32, margin: f64, delta: u32) -> bool
 fn is_margin(margin: f64) -> bool
     ensures { result ≡ is_margin margin }
 {
-    let mut k: u32 = 0;
-    while k < 257 {
-        if margin == k as f64 * 0.00390625 {
-            return true;
-        }
-        k += 1;
-    }
-    false
+    (0u32..257).any(|k| margin == k as f64 * 0.00390625)
 }
 
 // Check 21.
