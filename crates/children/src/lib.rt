@@ -7,7 +7,6 @@ ghost use Rattle.rules.specs.Rules.{Position, mark, board, board_states, game_st
 ghost use Rattle.rules.specs.Record.{side_bit, player_of, Accepted};
 ghost use Rattle.game.specs.Numbers.{player_number, state_number};
 ghost use Rattle.game.specs.Masks.{mask, mask_of, nonzero, has_bit};
-ghost use Rattle.game.specs.Lines.{line_table};
 ghost use Rattle.game.specs.Words.{Holds, Held};
 ghost use Rattle.game.specs.Cursor.{moves_from};
 ghost use Rattle.machine.specs.Tree.{INFINITY};
@@ -32,16 +31,15 @@ pub struct Outer {
 }
 
 impl Outer {
+    #[tactic(auto, using(crate::specs::Scalars::outer_of))]
     pub fn read(words: &[u16], base: usize) -> Self
         requires { Held words.now base }
         ensures { (p : Position) → Holds p words.now base → OuterOf p result }
     {
         let side = game::side_to_move(words, base);
-        let won = game::won_bits(words, base, side);
-        let done = game::done_bits(words, base);
         Outer {
-            won,
-            done,
+            won: game::won_bits(words, base, side),
+            done: game::done_bits(words, base),
             target: game::target(words, base),
             side,
         }
@@ -49,6 +47,7 @@ impl Outer {
 }
 
 // The mover's cells on board b, nine bits.
+#[tactic(auto, using(crate::specs::Taken::mine_is))]
 pub fn mine_bits(words: &[u16], base: usize, side: usize, b: usize) -> u16
     requires { Held words.now base × (side < 2) × (b < 9) }
     ensures { (p : Position) → Holds p words.now base → side ≡ side_bit p.side → result ≡ mask (mark p.side) (board p.cells b) }
@@ -57,6 +56,7 @@ pub fn mine_bits(words: &[u16], base: usize, side: usize, b: usize) -> u16
 }
 
 // The cells of board b that are taken, nine bits.
+#[tactic(auto, using(crate::specs::Taken::taken_is))]
 pub fn taken_bits(words: &[u16], base: usize, b: usize) -> u16
     requires { Held words.now base × (b < 9) }
     ensures value { (p : Position) → Holds p words.now base → result ≡ mask_of nonzero (board p.cells b) }
@@ -66,6 +66,7 @@ pub fn taken_bits(words: &[u16], base: usize, b: usize) -> u16
 }
 
 // The moves of board b, where the target leads there: its empty cells, or none if it is done.
+#[tactic(auto, using(crate::specs::Counts::moves_none, crate::specs::Counts::moves_some))]
 fn board_moves(words: &[u16], base: usize, done: u16, b: usize) -> u32
     requires { Held words.now base × (b < 9) }
     ensures value { (p : Position) → Holds p words.now base → done ≡ mask_of nonzero (board_states p.cells) → result ≡ board_moves p b }
@@ -74,7 +75,7 @@ fn board_moves(words: &[u16], base: usize, done: u16, b: usize) -> u32
     if game::has(done, b) {
         return 0;
     }
-    u16::count_ones(511 - taken_bits(words, base, b))
+    (511 - taken_bits(words, base, b)).count_ones()
 }
 
 // The moves of all boards, with a free choice.
@@ -82,7 +83,7 @@ fn free_moves(words: &[u16], base: usize, done: u16) -> u32
     requires { Held words.now base }
     ensures { (p : Position) → Holds p words.now base → done ≡ mask_of nonzero (board_states p.cells) → p.target ≡ 15 → result ≡ length (moves_from p 0) }
 {
-    let mut n: u32 = 0;
+    let mut n = 0;
     for b in 0..9 {
         n += board_moves(words, base, done, b);
     }
@@ -104,15 +105,12 @@ pub fn count_moves(words: &[u16], base: usize) -> u32
 }
 
 // Whether the end of board b, which is in play, can end the game.
-pub fn may_end(table: &[u8; 512], o: Outer, b: usize) -> bool
-    requires { (table.now ≡ line_table) × ((p : Position) × OuterOf p o) × (b < 9) × (has_bit o.done b ≡ false) }
+pub fn may_end(o: Outer, b: usize) -> bool
+    requires { ((p : Position) × OuterOf p o) × (b < 9) × (has_bit o.done b ≡ false) }
     ensures { MayEnd o b result }
 {
     let own = game::bit(b);
-    if game::line(table, o.won + own) {
-        return true;
-    }
-    o.done + own == 511
+    game::line(o.won + own) || o.done + own == 511
 }
 
 // The game's state once a board that ended has left so many done, and given the mover no line of boards.
@@ -120,51 +118,40 @@ fn rest_of_game(done: u16) -> GameState
     ensures { state_number result ≡ cond (eqb done 511) 3 0 }
 {
     if done == 511 {
-        return GameState::Drawn;
+        GameState::Drawn
+    } else {
+        GameState::InPlay
     }
-    GameState::InPlay
 }
 
 fn player(side: usize) -> Player
     requires { side < 2 }
     ensures { player_number result ≡ side }
 {
-    if side == 0 {
-        return Player::X;
-    }
-    Player::O
+    if side == 0 { Player::X } else { Player::O }
 }
 
 // The game's state after the mover, who has mine of the taken cells of board b, takes cell c there.
-pub fn state_after(
-    table: &[u8; 512],
-    o: Outer,
-    mine: u16,
-    taken: u16,
-    b: usize,
-    c: usize,
-) -> GameState
-    requires { (table.now ≡ line_table) × ((p : Position) × ChildOf p o mine taken b c) }
+pub fn state_after(o: Outer, mine: u16, taken: u16, b: usize, c: usize) -> GameState
+    requires { (p : Position) × ChildOf p o mine taken b c }
     ensures { (p : Position) → ChildOf p o mine taken b c → state_number result ≡ game_state (play p (move_of b c)) }
 {
     let own = game::bit(b);
     let cell = game::bit(c);
-    let done = o.done + own;
-    if game::line(table, mine + cell) {
-        if game::line(table, o.won + own) {
-            return GameState::Won(player(o.side));
-        }
-        return rest_of_game(done);
+    let line = game::line(mine + cell);
+    if line && game::line(o.won + own) {
+        return GameState::Won(player(o.side));
     }
-    if taken + cell == 511 {
-        return rest_of_game(done);
+    if line || taken + cell == 511 {
+        return rest_of_game(o.done + own);
     }
     GameState::InPlay
 }
 
-// What the child by cell c of board b is worth to the attacker, the root's side.
+// What the child by cell c of board b is worth to the attacker, the root's side. Rule and attacker are numbers: every number has an answer, and a narrower type
+// would ask more of callers.
+#[tactic(auto, using(crate::specs::Leaves::child_evaluated, crate::specs::After::outer_small))]
 pub fn child_value(
-    table: &[u8; 512],
     o: Outer,
     mine: u16,
     taken: u16,
@@ -173,19 +160,19 @@ pub fn child_value(
     rule: u64,
     attacker: usize,
 ) -> Evaluation
-    requires { (table.now ≡ line_table) × ((p : Position) × ChildOf p o mine taken b c) }
+    requires { (p : Position) × ChildOf p o mine taken b c }
     ensures { (p : Position) → ChildOf p o mine taken b c → verdict result ≡ (view (game rule (player_of attacker))).value (play p (move_of b c)) }
 {
-    let state = state_after(table, o, mine, taken, b, c);
+    let state = state_after(o, mine, taken, b, c);
     evaluate::evaluate(rule, attacker, 1 - o.side, state)
 }
 
 // What an accepted position is worth to its own side to move.
-pub fn root_value(table: &[u8; 512], words: &[u16], base: usize, rule: u64) -> Evaluation
-    requires { (table.now ≡ line_table) × Held words.now base }
+pub fn root_value(words: &[u16], base: usize, rule: u64) -> Evaluation
+    requires { Held words.now base }
     ensures { (p : Position) → Holds p words.now base → Accepted p → verdict result ≡ (view (game_of rule p)).value p }
 {
-    evaluate::evaluate_at(table, words, base, rule, game::side_to_move(words, base))
+    evaluate::evaluate_at(words, base, rule, game::side_to_move(words, base))
 }
 
 // A leaf that its mover has won, or lost.
@@ -193,12 +180,14 @@ fn decided(won: bool) -> Bounds
     ensures { Pair result.phi result.delta (cond won 0 INFINITY) (cond won INFINITY 0) }
 {
     if won {
-        return Bounds::winning();
+        Bounds::winning()
+    } else {
+        Bounds::losing()
     }
-    Bounds::losing()
 }
 
 // The numbers of a leaf, by its evaluation and whether the other side is to move there.
+#[tactic(auto, using(crate::specs::Leaves::leaf_bounds))]
 pub fn leaf_bounds(value: Evaluation, and: bool) -> Bounds
     ensures { LeafBounds (verdict value) and result.phi result.delta }
 {

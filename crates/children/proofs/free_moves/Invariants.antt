@@ -1,10 +1,6 @@
 -- `children::free_moves` meets its contract: a board a turn. Assumes nothing.
-use Prim.Native.Nat.{◌-◌}
 use Rattle.children.specs.Counts.{Counting}
 use Rattle.children.proofs.free_moves.Given as goal
 
 abbrev pub invariant-loop-b : goal.invariant-loop-b
 invariant-loop-b l = Counting l.words l.base l.done l.n l.b
-
-abbrev pub decreases-loop-b : goal.decreases-loop-b
-decreases-loop-b l = 9 - l.b
