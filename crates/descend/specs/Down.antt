@@ -1,4 +1,4 @@
--- One child down: from what stands at an unsolved expanded node to what stands at the child that step 2 takes. Rests on Contracts, words and the laws of the machine.
+-- One child down: from what stands at an unsolved expanded node to what stands at the child that step 2 takes. Rests on Promises, words and the laws of the machine.
 use Rattle.std.specs.Prelude.{◌≡◌, refl, true, false, ℕ, suc, ◌+◌, ◌*◌, ◌≤◌, ◌<◌, length, get_or, set}
 use Rattle.std.proofs.Common.{ap, sym, ◌∙◌, subst, length-set, get_or-set_same, get_or-set_other}
 use mathlib.Core.List.{List, ◌∷◌, Memᴰ}

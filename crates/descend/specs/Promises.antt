@@ -1,25 +1,20 @@
 -- What the functions of step 2 ask for and come to. Rests on plain, words, stay and prover.
-use Rattle.std.specs.Prelude.{◌≡◌, List, Bool, false, ℕ, suc, ◌≤◌, ◌<◌, length, get_or, Float}
+use Rattle.std.specs.Prelude.{◌≡◌, List, Bool, false, ℕ, suc, ◌≤◌, ◌<◌, length, get_or, Float, Option, MatchOption}
 use Rattle.rules.specs.Rules.{Player, Position}
 use Rattle.machine.specs.Tree.{Node, Children, size, solved}
 use Rattle.machine.specs.Machine.{State, root, has_delta, has_move, first_that, first_with, holds_at, within_margin, choice, down, to_leaf}
 use Rattle.machine.specs.Place.{pool_max, UnsolvedAt, AtUnsolved}
 use Rattle.plain.specs.Plain.{game, policy_of}
 use Rattle.words.specs.Packed.{View}
-use Rattle.words.specs.Words.{NONE, DELTA, PACKED, SIBLING, word, Beyond}
+use Rattle.words.specs.Words.{NONE, PACKED, word, Beyond}
 use Rattle.words.specs.Trees.{Held, Part}
 use Rattle.words.specs.Walks.{Looking, Chosen}
 use Rattle.stay.specs.declared.Stay.{Stay}
 use Rattle.stay.specs.Margin.{steps_in, stay_of}
+use Rattle.node_pool.specs.declared.NodeID.{NodeID}
 use Rattle.prover.specs.declared.Prover.{Prover}
 use Rattle.prover.specs.Stands.{Stands, Searching}
-use Rattle.descend.specs.declared.Listed.{Listed}
 use Rattle.descend.specs.declared.Current.{Current}
-
--- The delta of node i and the next in its list
-pub record Lists (w : List ℕ) (i : ℕ) (r : Listed) : Type 0 where
-  pub delta_is : r.delta ≡ word w i DELTA
-  pub next_is : r.next.0 ≡ word w i SIBLING
 
 -- The list that begins at `first` has a child whose delta is phi, and the first such one is unsolved
 pub record Selectable (w : List ℕ) (first phi : ℕ) : Type 0 where
@@ -39,18 +34,17 @@ pub record Findable (w : List ℕ) (first m : ℕ) : Type 0 where
   pub list : Children Position
   pub looking : Looking view w first (has_move m) list first
 
--- i is the number of its first child that the move m led to, or there is none
-pub record Found (K : View Position) (w : List ℕ) (first m : ℕ) (ks : Children Position) (i : ℕ) : Type 0 where
-  pub at : (i ≡ NONE → ⊥) → Chosen K w first ks (first_that (has_move m) ks) i
-  pub nowhere : i ≡ NONE → (t : Node Position → Bool) → holds_at t ks (first_that (has_move m) ks) ≡ false
+-- r is its first child that the move m led to, if there is one
+abbrev pub Found : View Position → List ℕ → ℕ → ℕ → Children Position → Option NodeID → Type 0
+Found K w first m ks r =
+    MatchOption r ((t : Node Position → Bool) → holds_at t ks (first_that (has_move m) ks) ≡ false) (λ i. Chosen K w first ks (first_that (has_move m) ks) i.0)
 
-abbrev pub Finds : List ℕ → ℕ → ℕ → ℕ → Type 0
-Finds w first m i = (K : View Position) (ks : Children Position) → Looking K w first (has_move m) ks first → Found K w first m ks i
+abbrev pub Finds : List ℕ → ℕ → ℕ → Option NodeID → Type 0
+Finds w first m r = (K : View Position) (ks : Children Position) → Looking K w first (has_move m) ks first → Found K w first m ks r
 
--- r says whether there is a node at i that is within the margin
-pub record Tests (w : List ℕ) (i phi : ℕ) (margin : Float) (r : Bool) : Type 0 where
-  pub nowhere : i ≡ NONE → r ≡ false
-  pub at : (K : View Position) (n : Node Position) → Held K w n i → r ≡ within_margin (steps_in margin) phi n
+-- r says whether the node at i is within the margin
+abbrev pub Tests : List ℕ → ℕ → ℕ → Float → Bool → Type 0
+Tests w i phi margin r = (K : View Position) (n : Node Position) → Held K w n i → r ≡ within_margin (steps_in margin) phi n
 
 -- The children ks of the node n, with this phi and this remembered move, begin at `first`, and step 2 may take one
 pub record Listing (K : View Position) (w : List ℕ) (first phi remembered : ℕ) (n : Node Position) (ks : Children Position) : Type 0 where
@@ -74,7 +68,7 @@ Chooses y w first phi remembered i = (K : View Position) (n : Node Position) (ks
 
 -- The same search with its current node at place d
 abbrev pub at_depth : Prover → ℕ → Prover
-at_depth x d = record { depth = d; pool = x.pool; proved = x.proved; disproved = x.disproved; expanded = x.expanded }
+at_depth x d = record x { depth = d }
 
 -- A state whose current node is unsolved stands there, with that node at place d of the path
 pub record Unsolved (w path ps : List ℕ) (d : ℕ) : Type 0 where

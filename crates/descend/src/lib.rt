@@ -5,12 +5,11 @@
 ghost use Rattle.std.specs.Prelude.{◌≡◌, true, false, ◌<◌, get_or};
 ghost use Rattle.machine.specs.Tree.{solved};
 ghost use Rattle.machine.specs.Machine.{root};
-ghost use Rattle.game.specs.Lines.{line_table};
 ghost use Rattle.words.specs.Packed.{expanded_in, remembered_in};
 ghost use Rattle.words.specs.Words.{NONE, PACKED, word, Slot};
 ghost use Rattle.stay.specs.Margin.{is_margin, StayInRange};
 ghost use Rattle.prover.specs.Stands.{Searching};
-ghost use Rattle.descend.specs.Promises.{Lists, Selectable, Selects, Findable, Finds, Tests, Choosing, Chooses, Unsolved, GoesDown, Descended};
+ghost use Rattle.descend.specs.Promises.{Selectable, Selects, Findable, Finds, Tests, Choosing, Chooses, Unsolved, GoesDown, Descended};
 
 use game::Move;
 use node_pool::{NodeID, PLIES};
@@ -19,68 +18,42 @@ use prove::Bounds;
 use prover::Prover;
 use stay::Stay;
 
-// What select reads of a child: its delta, and the next one listed.
-#[derive(Clone, Copy)]
-struct Listed {
-    delta: u32,
-    next: NodeID,
-}
-
-fn look(words: &[u32], id: NodeID) -> Listed
-    requires { Slot words.now id.0 }
-    ensures { Lists words.now id.0 result }
-{
-    let delta = node_pool::delta(words, id);
-    let next = node_pool::sibling(words, id);
-    Listed { delta, next }
-}
-
 // The first listed child, from `first` on, whose delta is phi.
 pub fn select(words: &[u32], first: NodeID, phi: u32) -> NodeID
     requires { Selectable words.now first.0 phi }
     ensures { Selects words.now first.0 phi result.0 }
 {
     let mut id = first;
-    let mut child = look(words, id);
-    while child.delta != phi {
-        id = child.next;
-        child = look(words, id);
-    }
-    id
-}
-
-// The first listed child, from `first` on, that the move led to; no node if there is none.
-fn find(words: &[u32], first: NodeID, mv: Move) -> NodeID
-    requires { Findable words.now first.0 mv.0 }
-    ensures { Finds words.now first.0 mv.0 result.0 }
-{
-    let mut id = first;
-    while id.exists() {
-        let packed = node_pool::packed(words, id);
-        let led = node_pool::move_in(packed);
-        if led.0 == mv.0 {
-            return id;
-        }
+    while node_pool::delta(words, id) != phi {
         id = node_pool::sibling(words, id);
     }
     id
 }
 
-// Whether there is a node, it is unsolved, and its delta is within the margin of phi.
+// The first listed child, from `first` on, that the move led to, if there is one.
+fn find(words: &[u32], first: NodeID, mv: Move) -> Option<NodeID>
+    requires { Findable words.now first.0 mv.0 }
+    ensures { Finds words.now first.0 mv.0 result }
+{
+    let mut child = first;
+    while child.exists() {
+        if node_pool::move_in(node_pool::packed(words, child)) == mv {
+            return Some(child);
+        }
+        child = node_pool::sibling(words, child);
+    }
+    None
+}
+
+// Whether a child is unsolved, and its delta within the margin of phi.
 fn within_margin(words: &[u32], id: NodeID, phi: u32, margin: f64) -> bool
-    requires { ((id.0 ≡ NONE → ⊥) → Slot words.now id.0) × (phi < 16777216) × (is_margin margin ≡ true) }
+    requires { Slot words.now id.0 × (phi < 16777216) × (is_margin margin ≡ true) }
     ensures { Tests words.now id.0 phi margin result }
 {
-    if !id.exists() {
-        return false;
-    }
     let own = node_pool::phi(words, id);
     let delta = node_pool::delta(words, id);
     let bounds = Bounds { phi: own, delta };
-    if bounds.solved() {
-        return false;
-    }
-    stay::within(phi, margin, delta)
+    !bounds.solved() && stay::within(phi, margin, delta)
 }
 
 // The child that step 2 takes at a node that has this first child, phi and packed word: with a margin the one that the remembered move names, if it is within it.
@@ -88,16 +61,13 @@ fn choose(words: &[u32], first: NodeID, phi: u32, packed: u32, stay: Stay) -> No
     requires { Choosing words.now first.0 phi (remembered_in packed) × StayInRange stay }
     ensures { Chooses stay words.now first.0 phi (remembered_in packed) result.0 }
 {
-    match stay {
-        Stay::Off => select(words, first, phi),
-        Stay::Margin(margin) => {
-            let again = find(words, first, node_pool::remembered_in(packed));
-            if within_margin(words, again, phi, margin) {
-                return again;
-            }
-            select(words, first, phi)
-        }
+    if let Stay::Margin(margin) = stay
+        && let Some(again) = find(words, first, node_pool::remembered_in(packed))
+        && within_margin(words, again, phi, margin)
+    {
+        return again;
     }
+    select(words, first, phi)
 }
 
 // The current node's number and its packed word.
@@ -109,7 +79,6 @@ struct Current {
 
 // From the expanded node at a place of the path to the child that step 2 takes, whose move the node remembers.
 fn down(
-    table: &[u8; 512],
     words: &mut [u32],
     path: &mut [u32; PLIES],
     positions: &mut [u16; POSITIONS],
@@ -117,48 +86,41 @@ fn down(
     node: Current,
     stay: Stay,
 ) -> Current
-    requires table_value { (table.now ≡ line_table) × (node.id.0 ≡ get_or path.old depth 0) × (node.packed ≡ word words.old node.id.0 PACKED) × (expanded_in node.packed ≡ 1) }
+    requires node { (node.id.0 ≡ get_or path.old depth 0) × (node.packed ≡ word words.old node.id.0 PACKED) × (expanded_in node.packed ≡ 1) }
     requires unsolved { Unsolved words.old path.old positions.old depth × StayInRange stay }
     ensures { GoesDown stay words.old path.old positions.old depth words.new path.new positions.new result }
 {
-    let id = node.id;
-    let first = node_pool::first_child(words, id);
-    let phi = node_pool::phi(words, id);
+    let first = node_pool::first_child(words, node.id);
+    let phi = node_pool::phi(words, node.id);
     let child = choose(words, first, phi, node.packed, stay);
     let packed = node_pool::packed(words, child);
     let mv = node_pool::move_in(packed);
-    node_pool::remember(words, id, node.packed, mv);
-    positions::push(table, positions, depth, mv);
+    node_pool::remember(words, node.id, node.packed, mv);
+    positions::push(positions, depth, mv);
     path[depth + 1] = child.0;
     Current { id: child, packed }
 }
 
 // From the current node down while expanded.
 pub fn descend(
-    table: &[u8; 512],
     words: &mut [u32],
     path: &mut [u32; PLIES],
     positions: &mut [u16; POSITIONS],
     x: Prover,
     stay: Stay,
 ) -> Prover
-    requires { (table.now ≡ line_table) × ((g : Searching words.old path.old positions.old x) × (solved (root g.at) ≡ false)) × StayInRange stay }
+    requires { ((g : Searching words.old path.old positions.old x) × (solved (root g.at) ≡ false)) × StayInRange stay }
     ensures { Descended stay words.old path.old positions.old x words.new path.new positions.new result }
 {
     let mut depth = x.depth;
     let id = NodeID(path[depth]);
-    let packed = node_pool::packed(words, id);
-    let mut node = Current { id, packed };
+    let mut node = Current {
+        id,
+        packed: node_pool::packed(words, id),
+    };
     while node_pool::expanded_in(node.packed) {
-        node = down(table, words, path, positions, depth, node, stay);
+        node = down(words, path, positions, depth, node, stay);
         depth += 1;
     }
-    let pool = x.pool;
-    Prover {
-        depth,
-        pool,
-        proved: x.proved,
-        disproved: x.disproved,
-        expanded: x.expanded,
-    }
+    Prover { depth, ..x }
 }

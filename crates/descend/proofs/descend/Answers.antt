@@ -7,17 +7,17 @@ use Rattle.descend.specs.Descending.{Descending, current, descending_start, desc
 use Rattle.descend.proofs.descend.Goals.{At-loop-stay, In-loop-stay}
 use Rattle.descend.proofs.descend.Goals as goal
 
-turn : (c : At-loop-stay) → Descending c.args.stay c.requires.1.0 c.loop-stay.words c.loop-stay.path c.loop-stay.positions c.loop-stay.depth c.loop-stay.node
-turn c = c.loop-stay.invariant c.requires.1.0 c.requires.1.1
+turn : (c : At-loop-stay) → Descending c.args.stay c.requires.0.0 c.loop-stay.words c.loop-stay.path c.loop-stay.positions c.loop-stay.depth c.loop-stay.node
+turn c = c.loop-stay.invariant c.requires.0.0 c.requires.0.1
 
 open-there : (c : In-loop-stay) → expanded_in c.loop-stay.node.packed ≡ 1
 open-there c = eqb-true _ _ (sym c.expanded_in.ensures ∙ c.loop-stay-test.true)
 
-pub packed-packed-requires : goal.packed-packed-requires
-packed-packed-requires c = c.requires.1.0.stands.tree.tree.node.slot
+pub packed-requires : goal.packed-requires
+packed-requires c = c.requires.0.0.stands.tree.tree.node.slot
 
 pub loop-stay-init : goal.loop-stay-init
-loop-stay-init c g e = descending_start c.args.stay g e refl c.packed-packed.ensures
+loop-stay-init c g e = descending_start c.args.stay g e refl c.packed.ensures
 
 pub expanded_in-requires : goal.expanded_in-requires
 expanded_in-requires c = tt
@@ -25,7 +25,7 @@ expanded_in-requires c = tt
 pub down-node-requires : goal.down-node-requires
 down-node-requires c =
     let h = turn (goal.at.down-node-requires c).At-loop-stay in
-    record { table_value = (c.requires.0, h.id_is, h.packed_is, open-there (goal.at.down-node-requires c).In-loop-stay); unsolved = (current c.args.stay c.requires.1.0 h, c.requires.2) }
+    record { node = (h.id_is, h.packed_is, open-there (goal.at.down-node-requires c).In-loop-stay); unsolved = (current c.args.stay c.requires.0.0 h, c.requires.1) }
 
 pub overflow_add-depth : goal.overflow_add-depth
 overflow_add-depth c = let h = turn (goal.at.overflow_add-depth c).At-loop-stay in omega arith

@@ -8,7 +8,10 @@ use Rattle.descend.proofs.down.Goals.{After-move_in-mv, After-phi-phi, After-pus
 use Rattle.descend.proofs.down.Goals as goal
 
 read : (c : After-phi-phi) → Read c.args.words.now c.args.path.now c.args.depth c.args.node.id.0 c.first_child-first.result.0 c.phi-phi.result c.args.node.packed
-read c = record { id_is = c.requires.table_value.1; packed_is = c.requires.table_value.2; flag = c.requires.table_value.3; first_is = c.first_child-first.ensures; phi_is = c.phi-phi.ensures }
+read c = record { id_is = c.requires.node.0; packed_is = c.requires.node.1; flag = c.requires.node.2; first_is = c.first_child-first.ensures; phi_is = c.phi-phi.ensures }
+
+above_leaves : (c : After-phi-phi) → c.args.depth < 81
+above_leaves c = shallow c.requires.unsolved.0 (read c)
 
 read-child : (c : After-move_in-mv)
     → ReadChild c.args.stay c.args.words.now c.first_child-first.result.0 c.phi-phi.result (remembered_in c.args.node.packed)
@@ -23,19 +26,16 @@ packed-packed-requires c = child_slot c.requires.unsolved.0 (read (goal.at.packe
 
 pub push-requires : goal.push-requires
 push-requires c =
-    (c.requires.table_value.0, c.requires.unsolved.0.stands.positions_long, shallow c.requires.unsolved.0 (read (goal.at.push-requires c).After-phi-phi), movable c.requires.unsolved.0 (read (goal.at.push-requires c).After-phi-phi) (read-child (goal.at.push-requires c).After-move_in-mv))
-
-low : (c : After-push) → c.args.depth < 81
-low c = shallow c.requires.unsolved.0 ((record { id_is = c.requires.table_value.1; packed_is = c.requires.table_value.2; flag = c.requires.table_value.3; first_is = c.first_child-first.ensures; phi_is = c.phi-phi.ensures }))
+    (c.requires.unsolved.0.stands.positions_long, above_leaves (goal.at.push-requires c).After-phi-phi, movable c.requires.unsolved.0 (read (goal.at.push-requires c).After-phi-phi) (read-child (goal.at.push-requires c).After-move_in-mv))
 
 pub overflow_add-path : goal.overflow_add-path
-overflow_add-path c = omega (arith, low (goal.at.overflow_add-path c).After-push)
+overflow_add-path c = omega (arith, above_leaves (goal.at.overflow_add-path c).After-phi-phi)
 
 pub offset_bounds-path-depth : goal.offset_bounds-path-depth
-offset_bounds-path-depth c = omega (arith, low (goal.at.offset_bounds-path-depth c).After-push)
+offset_bounds-path-depth c = omega (arith, above_leaves (goal.at.offset_bounds-path-depth c).After-phi-phi)
 
 pub bounds-path-depth : goal.bounds-path-depth
-bounds-path-depth c = let l = low (goal.at.bounds-path-depth c).After-push in omega (arith, l)
+bounds-path-depth c = let l = above_leaves (goal.at.bounds-path-depth c).After-phi-phi in omega (arith, l)
 
 pub returns : goal.returns
 returns c g = went_down g (read (goal.at.returns c).After-phi-phi) (read-child (goal.at.returns c).After-move_in-mv) _ c.remember.ensures refl (omega arith) c.push.ensures refl refl

@@ -5,7 +5,7 @@ use Rattle.descend.specs.Finding.{Sought}
 use Rattle.descend.proofs.find.Given as goal
 
 abbrev pub invariant-loop-mv : goal.invariant-loop-mv
-invariant-loop-mv l = Sought l.words l.initial.id.0 l.mv.0 l.id.0
+invariant-loop-mv l = Sought l.words l.initial.child.0 l.mv.0 l.child.0
 
 abbrev pub decreases-loop-mv : goal.decreases-loop-mv
-decreases-loop-mv l = siblings pool_max l.words l.id.0
+decreases-loop-mv l = siblings pool_max l.words l.child.0

@@ -4,8 +4,8 @@ use Rattle.words.proofs.Walks.{siblings}
 use Rattle.descend.specs.Selecting.{Selecting}
 use Rattle.descend.proofs.select.Given as goal
 
-abbrev pub invariant-loop-child : goal.invariant-loop-child
-invariant-loop-child l = Selecting l.words l.initial.id.0 l.phi l.id.0 l.child
+abbrev pub invariant-loop-id : goal.invariant-loop-id
+invariant-loop-id l = Selecting l.words l.initial.id.0 l.phi l.id.0
 
-abbrev pub decreases-loop-child : goal.decreases-loop-child
-decreases-loop-child l = siblings pool_max l.words l.id.0
+abbrev pub decreases-loop-id : goal.decreases-loop-id
+decreases-loop-id l = siblings pool_max l.words l.id.0
