@@ -1,7 +1,7 @@
 -- Laws of beginnings: the common one of two lists, and the legal one of a list, are beginnings, and none that has what is asked is longer. Rests on Sheets,
 -- AgreedOpening and the rules' Replays.
-use Rattle.std.specs.Prelude.{◌≡◌, refl, List, [], ◌∷◌, ◌++◌, ℕ, suc, ◌+◌, ◌≤◌, ◌<◌, length, get_or, take, drop}
-use Rattle.std.proofs.Common.{ap, ◌∙◌, append_assoc, append-nil, add-one, arith, eq-eqb, ne_eqb, length-append, drop_of_length-le, drop-cons}
+use Rattle.std.specs.Prelude.{◌≡◌, ◌≢◌, refl, List, [], ◌∷◌, ◌++◌, ℕ, zero, suc, ◌≤◌, ◌<◌, length, take, slice_index}
+use Rattle.std.proofs.Common.{ap, sym, ◌∙◌, append_assoc, append-nil, arith, eq-eqb, ne_eqb, length-append}
 use Rattle.std.proofs.Math.Decide.{ℕ_discrete}
 use Rattle.std.proofs.Math.Seq.{take-append_seam}
 use Rattle.rules.specs.Rules.{Position, move_error, play, replay}
@@ -46,9 +46,6 @@ common_begins (m ∷ ms) (n ∷ ns) = go (ℕ_discrete m n) (common_begins ms ns
     go (yes e) h = rw (common_same m n ms ns e) ((h.0.0, ap (λ (l : List ℕ). m ∷ l) h.0.1), (h.1.0, cc (e, h.1.1)))
     go (no d) h = rw (common_differ m n ms ns d) ((m ∷ ms, refl), (n ∷ ns, refl))
 
-pub common_within : (first second : List ℕ) (n : ℕ) → n ≡ length (common first second) → n ≤ length first
-common_within first second n e = omega (arith, e, begins_length (common first second) first (common_begins first second).0)
-
 -- what both lists begin with is in the common beginning
 pub common_both : (ms us vs : List ℕ) → common (ms ++ us) (ms ++ vs) ≡ ms ++ common us vs
 common_both [] us vs = refl
@@ -58,33 +55,17 @@ pub common_itself : (ms : List ℕ) → common ms ms ≡ ms
 unfolding common
 common_itself ms = rw (append-nil ms) at (common_both ms [] [])
 
--- the loop over both lists: i moves are alike
-pub record Alike (first second : List ℕ) (i : ℕ) : Type 0 where
-  pub rest : length (common first second) ≡ i + length (common (drop i first) (drop i second))
-
-pub alike_start : (first second : List ℕ) → Alike first second 0
-alike_start first second = record { rest = omega arith }
-
-module _ (first second : List ℕ) (i : ℕ) (a : Alike first second i) where
-  alike_ends : common (drop i first) (drop i second) ≡ [] → i ≡ length (common first second)
-  alike_ends e = omega (arith, a.rest, ap length e)
-
-  pub alike_first : length first ≤ i → i ≡ length (common first second)
-  unfolding common
-  alike_first h = alike_ends (rw (drop_of_length-le first h) refl)
-
-  pub alike_second : length second ≤ i → i ≡ length (common first second)
-  alike_second h = alike_ends (rw (drop_of_length-le second h) (common_none (drop i first)))
-
-  module _ (hf : i < length first) (hs : i < length second) where
-    pub alike_differ : (get_or first i 0 ≡ get_or second i 0 → ⊥) → i ≡ length (common first second)
-    alike_differ d = alike_ends (rw (drop-cons first i 0 hf, drop-cons second i 0 hs) (common_differ _ _ _ _ d))
-
-    pub alike_next : get_or first i 0 ≡ get_or second i 0 → Alike first second (i + 1)
-    alike_next e =
-        let here : common (drop i first) (drop i second) ≡ get_or first i 0 ∷ common (drop (suc i) first) (drop (suc i) second) =
-        rw (drop-cons first i 0 hf, drop-cons second i 0 hs) (common_same _ _ _ _ e) in
-        record { rest = rw add-one (omega (arith, a.rest, ap length here)) }
+-- how many moves both lists begin with: so many are alike, and then a list ends or they differ
+pub common_counted : (first second : List ℕ) (n : ℕ) → n ≤ length first → n ≤ length second → ((k : ℕ) → k < n → slice_index first k ≡ slice_index second k)
+    → (n < length first → n < length second → slice_index first n ≢ slice_index second n) → n ≡ length (common first second)
+unfolding common
+common_counted [] second n f s alike differ = omega arith
+common_counted (x ∷ xs) [] n f s alike differ = omega arith
+common_counted (x ∷ xs) (y ∷ ys) zero f s alike differ = sym (ap length (common_differ x y xs ys (differ (omega arith) (omega arith))))
+common_counted (x ∷ xs) (y ∷ ys) (suc n) f s alike differ =
+    let e = common_counted xs ys n (omega arith) (omega arith) (λ k h. alike (suc k) (omega arith)) (λ h i. differ (omega arith) (omega arith)) in
+    let same : common (x ∷ xs) (y ∷ ys) ≡ x ∷ common xs ys = common_same x y xs ys (alike 0 (omega arith)) in
+    omega (arith, e, ap length same)
 
 -- the first move is legal, or not
 module _ (p : Position) (m : ℕ) (ms : List ℕ) where

@@ -1,8 +1,12 @@
--- The agreed opening of two sheets, and the call as one function of what comes in (MANUAL, Calls). Rests on the rules and on the calls' answers.
-use Rattle.std.specs.Prelude.{cond, List, [], ◌∷◌, ℕ, eqb, ltb, length, replicate}
+-- The agreed opening of two sheets, and the call as one function of what comes in (MANUAL, Calls). Rests on the rules, the numbers of
+-- the refusals and the calls' answers.
+use Rattle.std.specs.Prelude.{cond, List, [], ◌∷◌, ℕ, eqb, ltb, length, replicate, Result, Ok, Err}
+use Rattle.std.specs.Borrow.{Bor}
 use Rattle.rules.specs.Rules.{Position, move_error, play, replay}
 use Rattle.rules.specs.Rules.Player.{X}
 use Rattle.rules.specs.Refusals.{refuses}
+use Rattle.refusals.specs.Numbers.{number}
+use Rattle.refusals.specs.declared.Refusal.{Refusal}
 use Rattle.calls.specs.Calls.{answer_unless, after_moves}
 
 -- The empty game: X to move, free choice, no cell played.
@@ -40,3 +44,8 @@ agreeing moves out = sheets_outcome moves 0 (after_moves (replay empty_game move
 -- Check 7 alone: an output of fewer than 21 bytes gets the empty part, and none of its bytes is written.
 unfoldable pub sheets_call : (first second out : List ℕ) → SheetsOutcome
 sheets_call first second out = answer_unless (refuses 7 (ltb (length out) 21)) (λ n. sheets_outcome [] n out) (agreeing (opening first second) out)
+
+-- What the code's answer says: a part that is handed back, or the number of a refusal, with the empty part.
+abbrev pub agreed : Result (Bor (List ℕ)) Refusal → List ℕ → SheetsOutcome
+agreed (Ok part) out = sheets_outcome part.now 0 out
+agreed (Err r) out = sheets_outcome [] (number r) out
