@@ -253,12 +253,10 @@ fn take(words: &[u32], vacant: Vacant) -> AllocedNode
     ensures { (g : Spare words.now vacant.head.0 vacant.used) → Number words.now vacant.head.0 vacant.used g result.id.0 result.vacant.head.0 result.vacant.used }
 {
     if vacant.head.exists() {
+        let head = first_child(words, vacant.head);
         AllocedNode {
             id: vacant.head,
-            vacant: Vacant {
-                head: first_child(words, vacant.head),
-                ..vacant
-            },
+            vacant: Vacant { head, ..vacant },
         }
     } else {
         AllocedNode {
