@@ -7,10 +7,11 @@ use Rattle.machine.specs.Tree.{u32_max, none, size, least_delta, sum_phi}
 use Rattle.machine.specs.Machine.{State, live, children, expand}
 use Rattle.plain.specs.Plain.{game}
 use Rattle.words.specs.Words.{NONE, PACKED, FIRST, word, set_word, capacity, Beyond}
+use Rattle.node_pool.specs.declared.Vacant.{Vacant}
 use Rattle.prover.specs.declared.Prover.{Prover}
+use Rattle.prover.specs.declared.Ascent.{Ascent}
 use Rattle.prover.specs.Stands.{Stands}
 use Rattle.expand.specs.declared.Made.{Made}
-use Rattle.expand.specs.declared.Expanded.{Expanded}
 
 -- A counter below this has room for a pool's nodes more
 abbrev pub counter_max : ℕ
@@ -32,21 +33,21 @@ pub record Expandable (w path ps : List ℕ) (x : Prover) (rule root : ℕ) : Ty
   pub few_expanded : x.expanded < counter_max
 
 -- The plain machine's step 4 is done; and the numbers that step 5 works out for the leaf
-pub record Expansion (rule : ℕ) (side : Player) (at : State Position) (w path ps v : List ℕ) (r : Expanded) : Type 0 where
+pub record Expansion (rule : ℕ) (side : Player) (at : State Position) (w path ps v : List ℕ) (r : Ascent) : Type 0 where
   pub stands : Stands rule side v path ps r.prover (expand (game rule side) at)
-  pub phi_is : r.phi ≡ least_delta (children (game rule side) at.node.pos)
-  pub delta_is : r.delta ≡ min (sum_phi (children (game rule side) at.node.pos)) u32_max
+  pub phi_is : r.bounds.phi ≡ least_delta (children (game rule side) at.node.pos)
+  pub delta_is : r.bounds.delta ≡ min (sum_phi (children (game rule side) at.node.pos)) u32_max
   pub past : Beyond w v
 
-abbrev pub Expands : List ℕ → List ℕ → List ℕ → Prover → ℕ → ℕ → List ℕ → Expanded → Type 0
+abbrev pub Expands : List ℕ → List ℕ → List ℕ → Prover → ℕ → ℕ → List ℕ → Ascent → Type 0
 Expands w path ps x rule root v r = (g : Expandable w path ps x rule root) → Expansion rule g.side g.at w path ps v r
 
 -- No child is made
-pub record NoneMade (head used : ℕ) (m : Made) : Type 0 where
-  pub head_is : m.head.0 ≡ head
-  pub used_is : m.used ≡ used
-  pub made_is : m.made ≡ 0
-  pub last_is : m.last.0 ≡ NONE
+pub record NoneMade (vacant : Vacant) (m : Made) : Type 0 where
+  pub head_is : m.siblings.vacant.head.0 ≡ vacant.head.0
+  pub used_is : m.siblings.vacant.used ≡ vacant.used
+  pub made_is : m.siblings.made ≡ 0
+  pub last_is : m.siblings.last.0 ≡ NONE
   pub phi_is : m.phi ≡ u32_max
   pub delta_is : m.delta ≡ 0
   pub ended_is : m.ended ≡ false
@@ -55,7 +56,7 @@ pub record NoneMade (head used : ℕ) (m : Made) : Type 0 where
 abbrev pub counted : Prover → Made → Prover
 counted x m = record {
   depth = x.depth;
-  pool = record { head = m.head; used = m.used; allocated = x.pool.allocated + m.made; freed = x.pool.freed };
+  pool = record { vacant = m.siblings.vacant; allocated = x.pool.allocated + m.siblings.made; freed = x.pool.freed };
   proved = x.proved;
   disproved = x.disproved;
   expanded = x.expanded + 1;

@@ -21,12 +21,12 @@ use Rattle.words.specs.Pool.{Holding}
 use Rattle.words.proofs.Store.{holding_opened}
 use Rattle.words.proofs.States.{holds_expanded}
 use Rattle.prover.specs.declared.Prover.{Prover}
+use Rattle.prover.specs.declared.Ascent.{Ascent}
 use Rattle.prover.specs.Stands.{Stands, here, positions_same}
 use Rattle.children.specs.declared.Outer.{Outer}
 use Rattle.children.specs.Scalars.{OuterOf}
 use Rattle.expand.specs.declared.Made.{Made}
 use Rattle.expand.specs.declared.Parent.{Parent}
-use Rattle.expand.specs.declared.Expanded.{Expanded}
 use Rattle.expand.specs.Progress.{Leaf, to_come, Progress}
 use Rattle.expand.specs.Targets.{Unmade}
 use Rattle.expand.specs.Expandable.{Expandable, Expansion, NoneMade, counted, attached}
@@ -75,16 +75,16 @@ module _ (w path ps : List ℕ) (x : Prover) (rule root : ℕ) (g : Expandable w
       ap (λ (i : ℕ). eqb (and_in i) 1) (e ∙ h.packed_is) ∙ ap (λ (i : ℕ). eqb i 1) (packed_read K n h.byte).and_is ∙ flag_of (K.and p)
 
   -- No child is made
-  module _ (m : Made) (z : NoneMade x.pool.head.0 x.pool.used m) where
+  module _ (m : Made) (z : NoneMade x.pool.vacant m) where
     abbrev Bare : Children Position → ℕ → ℕ → ℕ → Type 0
     Bare ks head used last = Holding K w path x.depth head used g.at.above n ks none last
 
-    held : Bare none m.head.0 m.used m.last.0
+    held : Bare none m.siblings.vacant.head.0 m.siblings.vacant.used m.siblings.last.0
     held =
-        subst (λ (ks : Children Position). Bare ks m.head.0 m.used m.last.0) g.bare
-        (subst (λ (i : ℕ). Bare g.at.below i m.used m.last.0) (sym z.head_is)
-        (subst (λ (i : ℕ). Bare g.at.below x.pool.head.0 i m.last.0) (sym z.used_is)
-        (subst (λ (i : ℕ). Bare g.at.below x.pool.head.0 x.pool.used i) (sym z.last_is) g.stands.tree.tree)))
+        subst (λ (ks : Children Position). Bare ks m.siblings.vacant.head.0 m.siblings.vacant.used m.siblings.last.0) g.bare
+        (subst (λ (i : ℕ). Bare g.at.below i m.siblings.vacant.used m.siblings.last.0) (sym z.head_is)
+        (subst (λ (i : ℕ). Bare g.at.below x.pool.vacant.head.0 i m.siblings.last.0) (sym z.used_is)
+        (subst (λ (i : ℕ). Bare g.at.below x.pool.vacant.head.0 x.pool.vacant.used i) (sym z.last_is) g.stands.tree.tree)))
 
     pub none_made : Progress leaf_at w m (moves_from p 0)
     unfolding size least_delta sum_phi live children
@@ -131,27 +131,27 @@ module _ (w path ps : List ℕ) (x : Prover) (rule root : ℕ) (g : Expandable w
     leaf_shut = ap expanded_in h.held.node.packed_is ∙ (packed_read K n h.held.node.byte).expanded_is ∙ ap bit g.shut
 
     -- They are the leaf's own
-    module _ (v : List ℕ) (e : v ≡ attached w₁ id m.last.0) where
+    module _ (v : List ℕ) (e : v ≡ attached w₁ id m.siblings.last.0) where
       abbrev w₂ : List ℕ
       w₂ = set_word w₁ id PACKED (word w₁ id PACKED + 536870912)
 
       marked : Stored w₁ w₂ id PACKED (word w₁ id PACKED + 536870912)
       marked = stored w₁ w₂ id PACKED (word w₁ id PACKED + 536870912) leaf_slot (omega arith) refl
 
-      linked : Stored w₂ v id FIRST m.last.0
-      linked = stored w₂ v id FIRST m.last.0 (slot_long marked.only.long leaf_slot) (omega arith) e
+      linked : Stored w₂ v id FIRST m.siblings.last.0
+      linked = stored w₂ v id FIRST m.siblings.last.0 (slot_long marked.only.long leaf_slot) (omega arith) e
 
-      tree_then : Holding K v path x.depth m.head.0 m.used g.at.above (opened G n) (children G p) none NONE
+      tree_then : Holding K v path x.depth m.siblings.vacant.head.0 m.siblings.vacant.used g.at.above (opened G n) (children G p) none NONE
       tree_then =
-          subst (λ (ks : Children Position). Holding K v path x.depth m.head.0 m.used g.at.above (opened G n) ks none NONE) all_made
-          (holding_opened G K w₁ path x.depth m.head.0 m.used g.at.above n h.made m.last.0 h.held g.shut w₂ v marked linked)
+          subst (λ (ks : Children Position). Holding K v path x.depth m.siblings.vacant.head.0 m.siblings.vacant.used g.at.above (opened G n) ks none NONE) all_made
+          (holding_opened G K w₁ path x.depth m.siblings.vacant.head.0 m.siblings.vacant.used g.at.above n h.made m.siblings.last.0 h.held g.shut w₂ v marked linked)
 
       stands_then : Stands rule g.side v path ps (counted x m) (expand G g.at)
       unfolding expand opened
       stands_then = record {
         tree =
-            holds_expanded G K w path x.depth x.pool.head.0 x.pool.used x.pool.allocated x.pool.freed g.at g.stands.tree g.bare v m.head.0 m.used
-            (x.pool.allocated + m.made) tree_then (ap (λ (k : ℕ). x.pool.allocated + k) (h.made_is ∙ ap (size {Pos = Position}) all_made));
+            holds_expanded G K w path x.depth x.pool.vacant.head.0 x.pool.vacant.used x.pool.allocated x.pool.freed g.at g.stands.tree g.bare v m.siblings.vacant.head.0 m.siblings.vacant.used
+            (x.pool.allocated + m.siblings.made) tree_then (ap (λ (k : ℕ). x.pool.allocated + k) (h.made_is ∙ ap (size {Pos = Position}) all_made));
         positions = positions_same ps x.depth g.at.above n (opened G n) refl g.stands.positions;
         proved_is = g.stands.proved_is;
         disproved_is = g.stands.disproved_is;
@@ -160,7 +160,7 @@ module _ (w path ps : List ℕ) (x : Prover) (rule root : ℕ) (g : Expandable w
         positions_long = g.stands.positions_long;
       }
 
-      pub expansion : (r : Expanded) → r.prover ≡ counted x m → r.phi ≡ m.phi → r.delta ≡ m.delta → Expansion rule g.side g.at w path ps v r
+      pub expansion : (r : Ascent) → r.prover ≡ counted x m → r.bounds.phi ≡ m.phi → r.bounds.delta ≡ m.delta → Expansion rule g.side g.at w path ps v r
       expansion r ex ep ed = record {
         stands = subst (λ (y : Prover). Stands rule g.side v path ps y (expand G g.at)) (sym ex) stands_then;
         phi_is = ep ∙ h.phi_is ∙ ap (least_delta {Pos = Position}) all_made;

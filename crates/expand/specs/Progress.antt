@@ -51,10 +51,10 @@ to_come false ms = ms
 
 pub record Progress (l : Leaf) (w : List ℕ) (m : Made) (ms : List ℕ) : Type 0 where
   pub made : Children Position
-  pub held : Holding (view (game_at l)) w l.path l.depth m.head.0 m.used l.above l.node none made m.last.0
+  pub held : Holding (view (game_at l)) w l.path l.depth m.siblings.vacant.head.0 m.siblings.vacant.used l.above l.node none made m.siblings.last.0
   pub phi_is : m.phi ≡ least_delta made
   pub delta_is : m.delta ≡ min (sum_phi made) u32_max
-  pub made_is : m.made ≡ size made
+  pub made_is : m.siblings.made ≡ size made
   pub whole : make (game_at l) l.node.pos (to_come m.ended ms) made ≡ children (game_at l) l.node.pos
   pub room : size (children (game_at l) l.node.pos) + suc (size_above l.above) ≤ capacity w
   pub deep : suc l.depth < plies
@@ -82,7 +82,7 @@ progress_ended {l} {w} {m} {ms} e ms' g =
     }
 
 -- Few enough to be counted
-pub progress_few : {l : Leaf} {w : List ℕ} {m : Made} {ms : List ℕ} → Progress l w m ms → m.made < pool_max
+pub progress_few : {l : Leaf} {w : List ℕ} {m : Made} {ms : List ℕ} → Progress l w m ms → m.siblings.made < pool_max
 progress_few {l} {w} {m} g = omega (arith, g.made_is, holding_few _ _ _ _ _ _ _ _ _ _ _ g.held)
 
 -- The next move gives a child more
@@ -118,10 +118,10 @@ pub record Addable (w : List ℕ) (m : Made) (x : ℕ) (v : Verdict) (and : Bool
 
 -- The state after it, from the node that was allocated with its numbers
 pub record NodeAdded (m : Made) (bounds : Bounds) (a : AllocedNode) (r : Made) : Type 0 where
-  pub head_is : r.head.0 ≡ a.head.0
-  pub used_is : r.used ≡ a.used
-  pub made_is : r.made ≡ suc m.made
-  pub last_is : r.last.0 ≡ a.id.0
+  pub head_is : r.siblings.vacant.head.0 ≡ a.vacant.head.0
+  pub used_is : r.siblings.vacant.used ≡ a.vacant.used
+  pub made_is : r.siblings.made ≡ suc m.siblings.made
+  pub last_is : r.siblings.last.0 ≡ a.id.0
   pub phi_is : r.phi ≡ min m.phi bounds.delta
   pub delta_is : r.delta ≡ min (m.delta + bounds.phi) u32_max
   pub ended_is : r.ended ≡ eqb bounds.delta 0
@@ -150,18 +150,18 @@ module _ (w : List ℕ) (m : Made) (x : ℕ) (v : Verdict) (and : Bool) (g : Add
   before : make G p (x ∷ g.rest) g.progress.made ≡ children G p
   before = subst (λ (ms : List ℕ). make G p ms g.progress.made ≡ children G p) going_moves g.progress.whole
 
-  pub one_free : 0 < length g.progress.held.list + (capacity w - m.used)
+  pub one_free : 0 < length g.progress.held.list + (capacity w - m.siblings.vacant.used)
   unfolding size
   one_free =
       let h = g.progress in
       omega (arith, h.room, make_more g.leaf.rule g.leaf.root p x g.rest h.made, ap (size {Pos = Position}) before, h.held.full, h.held.fits)
 
   -- What alloc asks for
-  abbrev pub add_asks : Spare w m.head.0 m.used
-  add_asks = holding_asks (view G) w g.leaf.path g.leaf.depth m.head.0 m.used g.leaf.above g.leaf.node none g.progress.made m.last.0 g.progress.held one_free
+  abbrev pub add_asks : Spare w m.siblings.vacant.head.0 m.siblings.vacant.used
+  add_asks = holding_asks (view G) w g.leaf.path g.leaf.depth m.siblings.vacant.head.0 m.siblings.vacant.used g.leaf.above g.leaf.node none g.progress.made m.siblings.last.0 g.progress.held one_free
 
   module _ (bounds : Bounds) (k : ℕ) (w' : List ℕ) (a : AllocedNode) (n : LeafBounds v and bounds.phi bounds.delta) (is_packed : k ≡ pack (verdict_number v) 0 (bit and) 0 x 255)
-      (f : Alloced w m.head m.used add_asks bounds k m.last w' a) where
+      (f : Alloced w m.siblings.vacant add_asks bounds k m.siblings.last w' a) where
     numbers : Pair bounds.phi bounds.delta new.phi new.delta
     numbers = n g.leaf.rule g.leaf.root (play p x) x g.value_is g.and_is
 
@@ -172,11 +172,11 @@ module _ (w : List ℕ) (m : Made) (x : ℕ) (v : Verdict) (and : Bool) (g : Add
         ∙ ap (λ (u : Verdict). pack (verdict_number u) 0 (bit and) 0 x 255) g.value_is
         ∙ ap (λ (t : Bool). pack (verdict_number ((view G).value (play p x))) 0 (bit t) 0 x 255) g.and_is
 
-    holds : Holding (view G) w' g.leaf.path g.leaf.depth a.head.0 a.used g.leaf.above g.leaf.node none (child new none g.progress.made) a.id.0
+    holds : Holding (view G) w' g.leaf.path g.leaf.depth a.vacant.head.0 a.vacant.used g.leaf.above g.leaf.node none (child new none g.progress.made) a.id.0
     unfolding leaf
     holds =
-        holding_made (view G) w g.leaf.path g.leaf.depth m.head.0 m.used g.leaf.above g.leaf.node none g.progress.made m.last.0 g.progress.held one_free
-        a.id.0 a.head.0 a.used f.number w' new (g.byte, omega arith)
+        holding_made (view G) w g.leaf.path g.leaf.depth m.siblings.vacant.head.0 m.siblings.vacant.used g.leaf.above g.leaf.node none g.progress.made m.siblings.last.0 g.progress.held one_free
+        a.id.0 a.vacant.head.0 a.vacant.used f.number w' new (g.byte, omega arith)
         (record {
           only = f.filled.only;
           phi_is = f.filled.phi_is ∙ numbers.phi_is;
@@ -193,7 +193,7 @@ module _ (w : List ℕ) (m : Made) (x : ℕ) (v : Verdict) (and : Bool) (g : Add
     all_still false e = sym (make_next G (lawful g.leaf.rule g.leaf.root) p x g.rest g.progress.made e) ∙ before
 
     module _ (r : Made) (t : NodeAdded m bounds a r) where
-      held_then : Holding (view G) w' g.leaf.path g.leaf.depth r.head.0 r.used g.leaf.above g.leaf.node none (child new none g.progress.made) r.last.0
+      held_then : Holding (view G) w' g.leaf.path g.leaf.depth r.siblings.vacant.head.0 r.siblings.vacant.used g.leaf.above g.leaf.node none (child new none g.progress.made) r.siblings.last.0
       held_then = rw (t.head_is, t.used_is, t.last_is) holds
 
       pub added : Added g.leaf x g.rest w' r

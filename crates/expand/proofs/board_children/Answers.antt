@@ -5,19 +5,19 @@ use Rattle.expand.proofs.board_children.Goals as goal
 
 pub may_end-requires : goal.may_end-requires
 may_end-requires c =
-    (c.requires.0, (_, c.requires.1.of_leaf.outer), c.requires.1.in_range, not_done _ _ _ _ _ _ c.requires.1)
+    ((_, c.requires.of_leaf.outer), c.requires.in_range, not_done _ _ _ _ _ _ c.requires)
 
 pub mine_bits-mine-requires : goal.mine_bits-mine-requires
 mine_bits-mine-requires c =
-    ((_, c.requires.1.stands), (outer_small _ _ c.requires.1.of_leaf.outer).1, c.requires.1.in_range)
+    ((_, c.requires.stands), (outer_small _ _ c.requires.of_leaf.outer).1, c.requires.in_range)
 
 pub ending_board-requires : goal.ending_board-requires
 ending_board-requires c =
-    (c.requires.0, asks_ending _ _ _ _ _ _ c.requires.1 _ c.taken_bits-taken.ensures.value _ c.mine_bits-mine.ensures)
+    (asks_ending _ _ _ _ _ _ c.requires _ c.taken_bits-taken.ensures.value _ c.mine_bits-mine.ensures)
 
 pub open_board-requires : goal.open_board-requires
 open_board-requires c =
-    asks_open _ _ _ _ _ _ c.requires.1 _ c.taken_bits-taken.ensures.value _ c.may_end.ensures c.if-may_end.false
+    asks_open _ _ _ _ _ _ c.requires _ c.taken_bits-taken.ensures.value _ c.may_end.ensures c.if-may_end.false
 
 pub returns-then-may_end : goal.returns-then-may_end
 unfolding asks_ending

@@ -2,7 +2,7 @@
 use mathlib.Core.Path.{sym, ◌∙◌}
 use mathlib.Core.Logic.{inl, inr}
 use native.Mathlib.Omega.{arith}
-use borrow.Author.Tests.{not-true, not-false}
+use borrow.Author.Tests.{not-true}
 use Rattle.expand.specs.Boards.{cell_child, ending_start, ending_passed, ending_asks, ending_step, ending_done}
 use Rattle.expand.proofs.ending_board.Goals.{then-not-has, else-not-has}
 use Rattle.expand.proofs.ending_board.Goals as goal
@@ -15,26 +15,20 @@ has-requires c = omega (arith, c.loop-c-test.true)
 
 pub child_value-value-requires : goal.child_value-value-requires
 child_value-value-requires c =
-    (c.requires.0, (_, cell_child _ _ _ _ _ _ _ c.requires.1.of_leaf c.requires.1.board c.loop-c-test.true (sym c.has.ensures ∙ not-true _ c.if-not-has.true-raw)))
+    ((_, cell_child _ _ _ _ _ _ _ c.requires.of_leaf c.requires.board c.loop-c-test.true (sym c.has.ensures ∙ not-true _ c.if-not-has.true-raw)))
 
 pub from_coords-requires : goal.from_coords-requires
 from_coords-requires c =
-    (c.requires.1.board.in_range, c.loop-c-test.true)
+    (c.requires.board.in_range, c.loop-c-test.true)
 
 pub add_child-m-requires : goal.add_child-m-requires
 add_child-m-requires c =
-    ending_asks _ _ _ _ _ _ _ c.requires.1 _ _ _ (c.loop-c.invariant.1 c.requires.1) _ _ c.loop-c-test.true (sym c.has.ensures ∙ not-true _ c.if-not-has.true-raw) (not-true _ c.if-not-m.true)
+    ending_asks _ _ _ _ _ _ _ c.requires _ _ _ (c.loop-c.invariant.1 c.requires) _ _ c.loop-c-test.true (sym c.has.ensures ∙ not-true _ c.if-not-has.true-raw) c.if-m.false
     c.from_coords.ensures c.child_value-value.ensures
 
-pub overflow_add-c : goal.overflow_add-c
-overflow_add-c c = omega (arith, c.loop-c-test.true)
-
-pub loop-c-smaller : goal.loop-c-smaller
-loop-c-smaller c = omega (arith, c.loop-c-test.true)
-
-pub returns-else-not-m : goal.returns-else-not-m
-returns-else-not-m c g =
-    ending_done _ _ _ _ _ _ _ g _ _ _ (c.loop-c.invariant.1 g) c.loop-c.invariant.0 (inr (not-false _ c.if-not-m.false))
+pub returns-then-m : goal.returns-then-m
+returns-then-m c g =
+    ending_done _ _ _ _ _ _ _ g _ _ _ (c.loop-c.invariant.1 g) c.loop-c.invariant.0 (inr c.if-m.true)
 
 pub returns-after-loop-c : goal.returns-after-loop-c
 returns-after-loop-c c g =
@@ -45,7 +39,7 @@ loop-c-preserved c = (
   omega (arith, c.loop-c-test.true),
   λ g. elim c.if-not-has.branch [
     | then-not-has w ↦ rw (w.words-is, w.m-is)
-        (ending_step _ _ _ _ _ _ _ g _ _ _ (c.loop-c.invariant.1 g) _ _ c.loop-c-test.true (sym c.has.ensures ∙ w.if-not-has.true) (not-true _ c.if-not-m.true) w.from_coords.ensures
+        (ending_step _ _ _ _ _ _ _ g _ _ _ (c.loop-c.invariant.1 g) _ _ c.loop-c-test.true (sym c.has.ensures ∙ w.if-not-has.true) c.if-m.false w.from_coords.ensures
         w.child_value-value.ensures _ _ w.add_child-m.ensures)
     | else-not-has w ↦ rw (w.words-is, w.m-is) (ending_passed _ _ _ _ _ _ _ g _ _ _ (c.loop-c.invariant.1 g) c.loop-c-test.true (sym c.has.ensures ∙ w.if-not-has.false))
   ],

@@ -15,22 +15,22 @@ all_made : (c : After-make_children-m)
 unfolding unmade
 all_made c g =
     c.make_children-m.ensures
-    (unmade _ _ _ _ _ _ g _ c.nothing-start.ensures _ _ _ (c.read-o.ensures _ (leaf_stands_at _ _ _ _ _ _ g _ c.base-base.ensures)) c.base-base.ensures refl refl (ap not c.and_in-and.ensures) c.packed.ensures)
+    (unmade _ _ _ _ _ _ g _ c.nothing.ensures _ _ _ (c.read-o.ensures _ (leaf_stands_at _ _ _ _ _ _ g _ c.base-base.ensures)) c.base-base.ensures refl refl (ap not c.and_in.ensures) c.packed.ensures)
 
 pub read-o-requires : goal.read-o-requires
-read-o-requires c = (_, leaf_stands_at _ _ _ _ _ _ c.requires.1 _ c.base-base.ensures)
+read-o-requires c = (_, leaf_stands_at _ _ _ _ _ _ c.requires _ c.base-base.ensures)
 
 pub make_children-m-requires : goal.make_children-m-requires
 make_children-m-requires c =
-    (c.requires.0, unmade _ _ _ _ _ _ c.requires.1 _ c.nothing-start.ensures _ _ _ (c.read-o.ensures _ (leaf_stands_at _ _ _ _ _ _ c.requires.1 _ c.base-base.ensures)) c.base-base.ensures refl refl (ap not c.and_in-and.ensures) c.packed.ensures)
+    (unmade _ _ _ _ _ _ c.requires _ c.nothing.ensures _ _ _ (c.read-o.ensures _ (leaf_stands_at _ _ _ _ _ _ c.requires _ c.base-base.ensures)) c.base-base.ensures refl refl (ap not c.and_in.ensures) c.packed.ensures)
 
 pub attach-requires : goal.attach-requires
 attach-requires c =
-    (leaf_slot _ _ _ _ _ _ c.requires.1 _ _ (all_made (goal.at.attach-requires c).After-make_children-m c.requires.1), leaf_shut _ _ _ _ _ _ c.requires.1 _ _ (all_made (goal.at.attach-requires c).After-make_children-m c.requires.1))
+    (leaf_slot _ _ _ _ _ _ c.requires _ _ (all_made (goal.at.attach-requires c).After-make_children-m c.requires), leaf_shut _ _ _ _ _ _ c.requires _ _ (all_made (goal.at.attach-requires c).After-make_children-m c.requires))
 
 pub count-requires : goal.count-requires
 count-requires c =
-    (c.requires.1.few_allocated, c.requires.1.few_expanded, progress_few (all_made (goal.at.count-requires c).After-make_children-m c.requires.1))
+    (c.requires.few_allocated, c.requires.few_expanded, progress_few (all_made (goal.at.count-requires c).After-make_children-m c.requires))
 
 pub returns : goal.returns
 returns c g = expansion _ _ _ _ _ _ g _ _ (all_made (goal.at.returns c).After-make_children-m g) _ c.attach.ensures _ c.count.ensures refl refl

@@ -2,7 +2,7 @@
 use mathlib.Core.Path.{sym, ◌∙◌}
 use mathlib.Core.Logic.{inl, inr}
 use native.Mathlib.Omega.{arith}
-use borrow.Author.Tests.{not-true, not-false}
+use borrow.Author.Tests.{not-true}
 use Rattle.expand.specs.Targets.{board_passed, free_done, free_asks, board_step}
 use Rattle.expand.proofs.free_children.Goals.{then-not-has, else-not-has}
 use Rattle.expand.proofs.free_children.Goals as goal
@@ -15,21 +15,15 @@ has-requires c = omega (arith, c.loop-b-test.true)
 
 pub board_children-m-requires : goal.board_children-m-requires
 board_children-m-requires c =
-    (c.requires.0, free_asks _ _ _ _ _ c.requires.1 c.requires.2 _ _ _ (c.loop-b.invariant.1 c.requires.1) c.loop-b-test.true (sym c.has.ensures ∙ not-true _ c.if-not-has.true-raw) (not-true _ c.if-not-m.true))
+    (free_asks _ _ _ _ _ c.requires.0 c.requires.1 _ _ _ (c.loop-b.invariant.1 c.requires.0) c.loop-b-test.true (sym c.has.ensures ∙ not-true _ c.if-not-has.true-raw) c.if-m.false)
 
-pub overflow_add-b : goal.overflow_add-b
-overflow_add-b c = omega (arith, c.loop-b-test.true)
-
-pub loop-b-smaller : goal.loop-b-smaller
-loop-b-smaller c = omega (arith, c.loop-b-test.true)
-
-pub returns-else-not-m : goal.returns-else-not-m
-returns-else-not-m c g =
-    free_done _ _ _ _ _ g c.requires.2 _ _ _ (c.loop-b.invariant.1 g) c.loop-b.invariant.0 (inr (not-false _ c.if-not-m.false))
+pub returns-then-m : goal.returns-then-m
+returns-then-m c g =
+    free_done _ _ _ _ _ g c.requires.1 _ _ _ (c.loop-b.invariant.1 g) c.loop-b.invariant.0 (inr c.if-m.true)
 
 pub returns-after-loop-b : goal.returns-after-loop-b
 returns-after-loop-b c g =
-    free_done _ _ _ _ _ g c.requires.2 _ _ _ (c.loop-b.invariant.1 g) c.loop-b.invariant.0 (inl c.loop-b-test.false)
+    free_done _ _ _ _ _ g c.requires.1 _ _ _ (c.loop-b.invariant.1 g) c.loop-b.invariant.0 (inl c.loop-b-test.false)
 
 pub loop-b-preserved : goal.loop-b-preserved
 unfolding free_asks
@@ -39,8 +33,8 @@ loop-b-preserved c = (
       let l = c.loop-b.invariant.1 g in
       elim c.if-not-has.branch [
         | then-not-has w ↦ rw (w.words-is, w.m-is)
-            (board_step _ _ _ _ _ g c.requires.2 _ _ _ l _ _
-            (w.board_children-m.ensures (free_asks _ _ _ _ _ g c.requires.2 _ _ _ l c.loop-b-test.true (sym c.has.ensures ∙ w.if-not-has.true) (not-true _ c.if-not-m.true))))
-        | else-not-has w ↦ rw (w.words-is, w.m-is) (board_passed _ _ _ _ _ g c.requires.2 _ _ _ l c.loop-b-test.true (sym c.has.ensures ∙ w.if-not-has.false))
+            (board_step _ _ _ _ _ g c.requires.1 _ _ _ l _ _
+            (w.board_children-m.ensures (free_asks _ _ _ _ _ g c.requires.1 _ _ _ l c.loop-b-test.true (sym c.has.ensures ∙ w.if-not-has.true) c.if-m.false)))
+        | else-not-has w ↦ rw (w.words-is, w.m-is) (board_passed _ _ _ _ _ g c.requires.1 _ _ _ l c.loop-b-test.true (sym c.has.ensures ∙ w.if-not-has.false))
       ],
 )

@@ -6,7 +6,7 @@ use Rattle.expand.proofs.make_children.Goals as goal
 
 pub board_children-requires : goal.board_children-requires
 board_children-requires c =
-    (c.requires.0, target_asks _ _ _ _ _ c.requires.1 (omega (arith, c.in-0-to-8.if-target-lt9-own.true)))
+    (target_asks _ _ _ _ _ c.requires (omega (arith, c.in-0-to-8.if-target-lt9-own.true)))
 
 pub returns-in-0-to-8 : goal.returns-in-0-to-8
 unfolding target_asks
