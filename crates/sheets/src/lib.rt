@@ -4,7 +4,7 @@
 
 ghost use Rattle.std.specs.Prelude.{◌≡◌, ◌≢◌, ℕ, ◌<◌, ◌≤◌, IfOk, length, slice_index};
 ghost use Rattle.game.specs.Words.{Holds};
-ghost use Rattle.sheets.specs.Sheets.{empty_game, common, sheets_call, agreed};
+ghost use Rattle.sheets.specs.Sheets.{empty_game, sheets_call, agreed};
 ghost use Rattle.sheets.specs.AgreedOpening.{AgreedOpening};
 
 use calls::RECORD_LENGTH;

@@ -1,5 +1,5 @@
 -- `sheets::agreed_opening` meets its contract: a short output, or the legal part of what both sheets begin with and the record after it. Assumes nothing.
-use Rattle.std.proofs.Common.{refl, sym, subst, length-take-le}
+use Rattle.std.proofs.Common.{refl, sym, subst, rules}
 use Rattle.sheets.specs.Sheets.{empty_game}
 use Rattle.sheets.specs.AgreedOpening.{AgreedOpening}
 use Rattle.sheets.proofs.Beginnings.{common_counted}
@@ -18,7 +18,9 @@ store-requires c =
     (c.if-out-lt-RECORD_LENGTH.false, (l.pos, l.holds))
 
 pub slice_bounds-result-end : goal.slice_bounds-result-end
-slice_bounds-result-end c = sym (length-take-le _ _ (played_within _ _ _ _ _ (c.play_line-line.ensures empty_game c.empty_game.ensures)))
+slice_bounds-result-end c =
+    let within = played_within _ _ _ _ _ (c.play_line-line.ensures empty_game c.empty_game.ensures) in
+    search rules
 
 pub returns : goal.returns
 returns c =
