@@ -14,6 +14,7 @@ pub struct MoveIterator {
 }
 
 // Whether the cell at place i is a legal move's, in a game in play.
+#[tactic(auto, using(crate::specs::Cursor::playable_is))]
 fn is_playable(words: &[u16], base: usize, i: usize) -> bool
     requires { Held words.now base × (i < 81) }
     ensures { (p : Position) → Holds p words.now base → result ≡ playable p (board_states p.cells) (move_at i) }
@@ -22,6 +23,7 @@ fn is_playable(words: &[u16], base: usize, i: usize) -> bool
 }
 
 impl MoveIterator {
+    #[tactic(auto, using(crate::specs::Cursor::moves_over, crate::specs::Cursor::moves_all))]
     pub fn from_game(words: &[u16], base: usize) -> Self
         requires { Held words.now base }
         ensures { (p : Position) → Holds p words.now base → legal_moves p ≡ moves_from p result.at }
@@ -33,6 +35,7 @@ impl MoveIterator {
     }
 
     // The next legal move, and the cursor past it; none, if no move is left.
+    #[tactic(auto, using(crate::specs::Cursor::looking_start, crate::specs::Cursor::looking_found))]
     pub fn next(&mut self, words: &[u16], base: usize) -> Option<Move>
         requires { Held words.now base }
         ensures { (p : Position) → Holds p words.now base → Stepped p self.old.at result self.new.at }

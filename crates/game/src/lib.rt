@@ -126,6 +126,7 @@ pub fn target(words: &[u16], base: usize) -> u16
 }
 
 // The side to move, 0 X, 1 O.
+#[tactic(auto, using(crate::specs::Words::side_lt))]
 pub fn side_to_move(words: &[u16], base: usize) -> usize
     requires { Held words.now base }
     ensures { (result ≡ get_or words.now (base + 22) 0) × (result < 2) }
@@ -134,6 +135,7 @@ pub fn side_to_move(words: &[u16], base: usize) -> usize
 }
 
 // The cells of one side on board b, nine bits.
+#[tactic(auto, using(crate::specs::Words::cells_small))]
 pub fn player_bits(words: &[u16], base: usize, side: usize, b: usize) -> u16
     requires { Held words.now base × (side < 2) × (b < 9) }
     ensures { (result ≡ get_or words.now (base + (side * 9 + b)) 0) × (result < 512) }
@@ -142,6 +144,7 @@ pub fn player_bits(words: &[u16], base: usize, side: usize, b: usize) -> u16
 }
 
 // The boards that one side has won, nine bits.
+#[tactic(auto, using(crate::specs::Words::won_small))]
 pub fn won_bits(words: &[u16], base: usize, side: usize) -> u16
     requires { Held words.now base × (side < 2) }
     ensures { (result ≡ get_or words.now (base + (18 + side)) 0) × (result < 512) }
@@ -150,6 +153,7 @@ pub fn won_bits(words: &[u16], base: usize, side: usize) -> u16
 }
 
 // The drawn boards, nine bits.
+#[tactic(auto, using(crate::specs::Words::drawn_lt))]
 pub fn drawn_bits(words: &[u16], base: usize) -> u16
     requires { Held words.now base }
     ensures { (result ≡ get_or words.now (base + 20) 0) × (result < 512) }
@@ -158,6 +162,7 @@ pub fn drawn_bits(words: &[u16], base: usize) -> u16
 }
 
 // The boards that are won or drawn.
+#[tactic(auto, using(crate::specs::Words::done_is))]
 pub fn done_bits(words: &[u16], base: usize) -> u16
     requires { Held words.now base }
     ensures { (p : Position) → Holds p words.now base → result ≡ mask_of nonzero (board_states p.cells) }
@@ -165,6 +170,7 @@ pub fn done_bits(words: &[u16], base: usize) -> u16
     won_bits(words, base, 0) + won_bits(words, base, 1) + drawn_bits(words, base)
 }
 
+#[tactic(auto, using(crate::specs::Words::in_play_is))]
 pub fn in_play(words: &[u16], base: usize, b: usize) -> bool
     requires { Held words.now base × (b < 9) }
     ensures { (p : Position) → Holds p words.now base → result ≡ eqb (code (board_states p.cells) b) 0 }
@@ -239,6 +245,7 @@ fn check_cell(words: &[u16], base: usize, b: usize, c: usize) -> Result<(), Move
 }
 
 // The first of the five errors, or Ok.
+#[tactic(auto, using(crate::specs::Errors::error_out, crate::specs::Errors::error_over, crate::specs::Errors::error_cell))]
 pub fn check_move(words: &[u16], base: usize, m: Move) -> Result<(), MoveError>
     requires { Held words.now base }
     ensures { (p : Position) → Holds p words.now base → result_number result ≡ move_error p m.0 }
@@ -292,6 +299,7 @@ pub struct Stores {
 }
 
 // What a legal move stores.
+#[tactic(auto, using(crate::specs::Moves::mine_small, crate::specs::Words::done_lt))]
 fn plan_move(words: &[u16], base: usize, m: Move) -> Stores
     requires { Movable words.now base m.0 }
     ensures { Planned words.now base m.0 result.side result.mine result.won result.drawn result.target }

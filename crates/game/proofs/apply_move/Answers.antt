@@ -5,6 +5,3 @@ use Rattle.game.proofs.apply_move.Goals as goal
 
 pub store_move-requires : goal.store_move-requires
 store_move-requires c = (c.requires.1.room, c.plan_move-s.ensures.small, omega (arith, c.global.ensures.0, (legal _ _ c.requires.2).board_in))
-
-pub returns : goal.returns
-returns c p h e = rw (c.store_move.ensures, c.global.ensures.0) (c.plan_move-s.ensures.makes p h e)

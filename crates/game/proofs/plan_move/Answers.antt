@@ -1,8 +1,7 @@
 -- `game::plan_move` meets its contract: the law of a move, fed with what each call found. Assumes nothing.
 use native.Mathlib.Omega.{arith}
 use Rattle.rules.proofs.Legal.{legal}
-use Rattle.game.specs.Words.{done_lt}
-use Rattle.game.specs.Moves.{mine_small, planned}
+use Rattle.game.specs.Moves.{planned}
 use Rattle.game.proofs.plan_move.Goals as goal
 
 pub player_bits-requires : goal.player_bits-requires
@@ -16,26 +15,6 @@ player_bits-theirs-requires c = ((c.requires.0, c.requires.1), omega arith, omeg
 
 pub bit-requires-2 : goal.bit-requires-2
 bit-requires-2 c = omega (arith, c.global-b.ensures.0, (legal _ _ c.requires.2).board_in)
-
-pub end_of_board-end-requires : goal.end_of_board-end-requires
-end_of_board-end-requires c = (
-  rw (c.player_bits.ensures.0, c.bit.ensures.0, c.global-b.ensures.0, c.local-c.ensures.0) (mine_small _ _ _ _ c.requires.1 c.requires.2 _ c.side_to_move-side.ensures.0),
-  c.player_bits-theirs.ensures.1,
-)
-
-pub overflow_add-done : goal.overflow_add-done
-overflow_add-done c = omega (arith, c.end_of_board-end.ensures.2, c.bit-2.ensures.1)
-
-pub overflow_add-done-2 : goal.overflow_add-done-2
-overflow_add-done-2 c =
-    let d = c.requires in
-    omega (arith, c.end_of_board-end.ensures.2, c.bit-2.ensures.1, c.done_bits.ensures d.0 d.1, done_lt d.0.cells)
-
-pub overflow_add-result : goal.overflow_add-result
-overflow_add-result c = omega (arith, c.end_of_board-end.ensures.2, c.bit-2.ensures.1, c.won_bits.ensures.1)
-
-pub overflow_add-result-2 : goal.overflow_add-result-2
-overflow_add-result-2 c = omega (arith, c.end_of_board-end.ensures.2, c.bit-2.ensures.1, c.drawn_bits.ensures.1)
 
 pub target_after-requires : goal.target_after-requires
 target_after-requires c = omega (arith, c.local-c.ensures.0, (legal _ _ c.requires.2).cell_in)

@@ -1,9 +1,0 @@
--- `game::target_after` meets its contract. Assumes nothing.
-use mathlib.Core.Path.{sym, ◌∙◌}
-use Rattle.game.proofs.target_after.Goals as goal
-
-pub returns-then-has : goal.returns-then-has
-returns-then-has c = rw (sym c.has.ensures ∙ c.if-has.true)
-
-pub returns-else-has : goal.returns-else-has
-returns-else-has c = rw (sym c.has.ensures ∙ c.if-has.false)
