@@ -7,35 +7,35 @@ use Rattle.room.proofs.count_from.Goals as goal
 pub loop-m-init : goal.loop-m-init
 loop-m-init c l a = counted_start l _ _ a.1
 
-pub next-step-requires : goal.next-step-requires
-next-step-requires c = (_, c.requires.1.0.holds)
+pub next-requires : goal.next-requires
+next-requires c = (_, c.requires.0.holds)
 
 pub overflow_add-n : goal.overflow_add-n
 overflow_add-n c =
-    let stepped = next_is _ _ _ _ c.next-step.ensures _ _ c.in-Next.is _ c.requires.1.0.holds in
-    omega (arith, counted_within c.requires.1.0 _ _ _ (c.loop-m.invariant c.requires.1.0 c.requires.1.1) _ _ stepped)
+    let stepped = next_is _ _ _ _ _ c.next.ensures _ c.in-Some.is _ c.requires.0.holds in
+    omega (arith, counted_within c.requires.0 _ _ _ (c.loop-m.invariant c.requires.0 c.requires.1) _ _ stepped)
 
 pub ends_making-requires : goal.ends_making-requires
 ends_making-requires c =
-    let stepped = next_is _ _ _ _ c.next-step.ensures _ _ c.in-Next.is _ c.requires.1.0.holds in
-    (c.requires.0, (c.requires.1.0, c.requires.1.1.0, counted_legal c.requires.1.0 _ _ _ (c.loop-m.invariant c.requires.1.0 c.requires.1.1) _ _ stepped))
+    let stepped = next_is _ _ _ _ _ c.next.ensures _ c.in-Some.is _ c.requires.0.holds in
+    (c.requires.0, c.requires.1.0, counted_legal c.requires.0 _ _ _ (c.loop-m.invariant c.requires.0 c.requires.1) _ _ stepped)
 
 pub returns-then-ends_making : goal.returns-then-ends_making
 returns-then-ends_making c l a =
     let k = c.loop-m.invariant l a in
-    let stepped = next_is _ _ _ _ c.next-step.ensures _ _ c.in-Next.is _ l.holds in
+    let stepped = next_is _ _ _ _ _ c.next.ensures _ c.in-Some.is _ l.holds in
     counted_last l _ _ _ k _ _ stepped _ (c.ends_making.ensures l a.0 (counted_legal l _ _ _ k _ _ stepped)) c.if-ends_making.true
 
 pub loop-m-smaller : goal.loop-m-smaller
 loop-m-smaller c =
-    let stepped = next_is _ _ _ _ c.next-step.ensures _ _ c.in-Next.is _ c.requires.1.0.holds in
-    counted_less c.requires.1.0 _ _ _ (c.loop-m.invariant c.requires.1.0 c.requires.1.1) _ _ stepped
+    let stepped = next_is _ _ _ _ _ c.next.ensures _ c.in-Some.is _ c.requires.0.holds in
+    counted_less c.requires.0 _ _ _ (c.loop-m.invariant c.requires.0 c.requires.1) _ _ stepped
 
 pub loop-m-preserved : goal.loop-m-preserved
 loop-m-preserved c l a =
     let k = c.loop-m.invariant l a in
-    let stepped = next_is _ _ _ _ c.next-step.ensures _ _ c.in-Next.is _ l.holds in
+    let stepped = next_is _ _ _ _ _ c.next.ensures _ c.in-Some.is _ l.holds in
     counted_next l _ _ _ k _ _ stepped _ (c.ends_making.ensures l a.0 (counted_legal l _ _ _ k _ _ stepped)) c.if-ends_making.false
 
-pub returns-in-End : goal.returns-in-End
-returns-in-End c l a = counted_done l _ _ _ (c.loop-m.invariant l a) (end_is _ _ _ _ c.next-step.ensures c.in-End.is _ l.holds)
+pub returns : goal.returns
+returns c l a = counted_done l _ _ _ (c.loop-m.invariant l a) (end_is _ _ _ _ _ c.next.ensures c.in_default.is _ l.holds)

@@ -6,12 +6,12 @@ use Rattle.room.proofs.count_made.Goals as goal
 
 pub count_from-requires : goal.count_from-requires
 count_from-requires c =
-    let outer = c.read-o.ensures _ c.requires.1.holds in
-    (c.requires.0, (c.requires.1, (outer, (target_passed outer (omega (arith, c.in-0-to-8.if-target-lt9-own.true))).0)))
+    let outer = c.read-o.ensures _ c.requires.holds in
+    (c.requires, (outer, (target_passed outer (omega (arith, c.in-0-to-8.if-target-lt9-own.true))).0))
 
 pub count_from-requires-in_default : goal.count_from-requires-in_default
 count_from-requires-in_default c =
-    (c.requires.0, (c.requires.1, (c.read-o.ensures _ c.requires.1.holds, refl)))
+    (c.requires, (c.read-o.ensures _ c.requires.holds, refl))
 
 pub returns-in-0-to-8 : goal.returns-in-0-to-8
 returns-in-0-to-8 c l =

@@ -8,7 +8,7 @@ returns-then-free_nodes-ge-MOST_MOVES c path g = enough_for_all g _ _ c.free_nod
 
 pub count_moves-requires : goal.count_moves-requires
 count_moves-requires c =
-    (_, (to_count c.requires.1.1 _ c.base-base.ensures).holds)
+    (_, (to_count c.requires.1 _ c.base-base.ensures).holds)
 
 pub returns-then-free_nodes-count_moves : goal.returns-then-free_nodes-count_moves
 returns-then-free_nodes-count_moves c path g =
@@ -18,7 +18,7 @@ returns-then-free_nodes-count_moves c path g =
 
 pub count_made-requires : goal.count_made-requires
 count_made-requires c =
-    (c.requires.0, to_count c.requires.1.1 _ c.base-base.ensures)
+    to_count c.requires.1 _ c.base-base.ensures
 
 pub returns : goal.returns
 returns c path g =
