@@ -7,7 +7,7 @@ ghost use Rattle.game.specs.Cursor.{move_at, moves_from, Stepped};
 
 use crate::Move;
 
-// The legal moves in move order, as a cursor by value over the 81 cells: at is the next to look at.
+// The legal moves in move order, as a cursor over the 81 cells: at is the next to look at.
 #[derive(Clone, Copy)]
 pub struct MoveIterator {
     pub at: usize,
