@@ -1,9 +1,8 @@
 -- The numbers of a list one of whose nodes changes, and a delta found in it. Rests on words and Asks.
-use Rattle.std.specs.Prelude.{◌≡◌, Bool, not, ◌||◌, List, ◌∷◌, ℕ, zero, suc, ◌+◌, ◌≤◌, min, eqb, get_or}
-use Rattle.std.proofs.Math.Path.{refl, ap, sym}
-use Rattle.std.proofs.Common.{◌∙◌, eqb-true, eq-eqb, ne_eqb}
+use Rattle.std.specs.Prelude.{◌≡◌, Bool, Option, Some, None, is_some, ◌||◌, List, ◌∷◌, ℕ, zero, suc, ◌+◌, ◌≤◌, min, eqb, get_or}
+use Rattle.std.proofs.Math.Path.{refl, sym}
+use Rattle.std.proofs.Common.{◌∙◌, eqb-true}
 use Rattle.std.proofs.Math.Bool.{true, false}
-use Rattle.std.proofs.Math.Decide.{ℕ_discrete}
 use Rattle.std.proofs.lemmas.Bool.{false≢true}
 use native.Mathlib.Omega.{arith}
 use Rattle.rules.specs.Rules.{Position}
@@ -14,6 +13,7 @@ use Rattle.words.specs.Packed.{View}
 use Rattle.words.specs.Words.{NONE, SIBLING, word}
 use Rattle.words.specs.Trees.{Part}
 use Rattle.words.specs.Pool.{Line}
+use Rattle.node_pool.specs.declared.NodeID.{NodeID}
 use Rattle.node_pool.specs.Seeking.{Sought}
 use Rattle.climb.specs.Asks.{has_delta}
 
@@ -60,10 +60,7 @@ has_first x (child n b ks) = go (eqb n.delta x) refl (has_first x ks)
     go true p h = rw (p, first_that, holds_at, has_delta, p)
     go false p h = rw (p, first_that, holds_at, has_delta) h
 
--- So it is if the walk for it ended at a node
-pub found : (K : View Position) (w : List ℕ) (first x : ℕ) (ks : Children Position) (i : ℕ) → Sought K w first (delta_is x) ks i → not (eqb i NONE) ≡ has_delta x ks
-found K w first x ks i s = go (ℕ_discrete i NONE)
-  where
-    go : Dec (i ≡ NONE) → not (eqb i NONE) ≡ has_delta x ks
-    go (yes e) = ap not (eq-eqb i NONE e) ∙ sym (s.nowhere e (delta_is x)) ∙ has_first x ks
-    go (no z) = ap not (ne_eqb i NONE z) ∙ sym (s.passes z) ∙ has_first x ks
+-- So it is if the walk for it found a node
+pub found : (K : View Position) (w : List ℕ) (first x : ℕ) (ks : Children Position) (r : Option NodeID) → Sought K w first (delta_is x) ks r → is_some r ≡ has_delta x ks
+found K w first x ks (Some i) s = sym s.1 ∙ has_first x ks
+found K w first x ks None s = sym (s (delta_is x)) ∙ has_first x ks

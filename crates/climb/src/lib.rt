@@ -22,8 +22,10 @@ pub fn recompute(words: &[u32], first: NodeID) -> Bounds
     let mut delta: u32 = 0;
     let mut id = first;
     while id.exists() {
-        phi = prove::least(phi, node_pool::delta(words, id));
-        delta = prove::held_sum(delta, node_pool::phi(words, id));
+        let d = node_pool::delta(words, id);
+        let p = node_pool::phi(words, id);
+        phi = prove::least(phi, d);
+        delta = prove::held_sum(delta, p);
         id = node_pool::sibling(words, id);
     }
     Bounds { phi, delta }
@@ -34,7 +36,7 @@ fn has_delta(words: &[u32], first: NodeID, delta: u32) -> bool
     requires { Recomputable words.now first.0 }
     ensures { Finds words.now first.0 delta result }
 {
-    node_pool::find(words, first, |id| node_pool::delta(words, id) == delta).exists()
+    node_pool::find(words, first, |id| node_pool::delta(words, id) == delta).is_some()
 }
 
 // The phi of a node that had the phi `held`, where one of its children has a new delta. With the setting off that child was the first listed with the delta

@@ -1,5 +1,5 @@
 -- Laws of specs/Seeking.antt: the walk of `find`. Rests on words' walks.
-use Rattle.std.specs.Prelude.{◌≡◌, List, Bool, true, false, ℕ, ◌≤◌}
+use Rattle.std.specs.Prelude.{◌≡◌, List, Bool, true, false, ℕ, ◌≤◌, Some, None}
 use Rattle.std.proofs.Common.{sym, ◌∙◌}
 use Rattle.rules.specs.Rules.{Position}
 use Rattle.machine.specs.Tree.{Node, Children, size}
@@ -23,13 +23,10 @@ module _ (Says : NodeID → Bool → Type 0) (w : List ℕ) (first : ℕ) where
   pub seeking_next : (i : NodeID) (j : ℕ) → (i.0 ≡ NONE → ⊥) → Says i false → j ≡ word w i.0 SIBLING → Seeking Says w first i.0 → Seeking Says w first j
   seeking_next i j z f e s K ks test a p l = rw e (looking_next K w first test ks i.0 z (λ m h. sym (a m i false h f)) (s K ks test a p l))
 
-  pub seeking_found : (i : NodeID) → (i.0 ≡ NONE → ⊥) → Says i true → Seeking Says w first i.0 → Seeks Says w first i
+  pub seeking_found : (i : NodeID) → (i.0 ≡ NONE → ⊥) → Says i true → Seeking Says w first i.0 → Seeks Says w first (Some i)
   seeking_found i z t s K ks test a p l =
-      let f = looking_found K w first test ks i.0 z (λ m h. sym (a m i true h t)) (s K ks test a p l) in record {
-        at = λ _. f;
-        passes = λ _. chosen_holds K w first ks _ i.0 f test ∙ sym (a f.node i true f.part.0 t);
-        nowhere = λ e. absurd (z e);
-      }
+      let f = looking_found K w first test ks i.0 z (λ m h. sym (a m i true h t)) (s K ks test a p l) in
+      (f, chosen_holds K w first ks _ i.0 f test ∙ sym (a f.node i true f.part.0 t))
 
-  pub seeking_none : (i : NodeID) → i.0 ≡ NONE → Seeking Says w first i.0 → Seeks Says w first i
-  seeking_none i e s K ks test a p l = record { at = λ z. absurd (z e); passes = λ z. absurd (z e); nowhere = λ _ t. looking_none K w first test ks i.0 e (s K ks test a p l) t }
+  pub seeking_none : (i : NodeID) → i.0 ≡ NONE → Seeking Says w first i.0 → Seeks Says w first None
+  seeking_none i e s K ks test a p l t = looking_none K w first test ks i.0 e (s K ks test a p l) t

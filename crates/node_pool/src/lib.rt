@@ -128,17 +128,20 @@ pub fn sibling(words: &[u32], id: NodeID) -> NodeID
     NodeID(get(words, id, SIBLING))
 }
 
-// The first of the siblings from `first` on that passes the test; no node if none does.
-pub fn find<F: Fn(NodeID) -> bool>(words: &[u32], first: NodeID, test: F) -> NodeID
+// The first of the siblings from `first` on that passes the test, if one does.
+pub fn find<F: Fn(NodeID) -> bool>(words: &[u32], first: NodeID, test: F) -> Option<NodeID>
     requires walks { (K : View Position) × Walkable K words.now first.0 }
     requires tests { (id : NodeID) → Slot words.now id.0 → F.pre test id }
     ensures { Seeks (F.post test) words.now first.0 result }
 {
     let mut id = first;
-    while id.exists() && !test(id) {
+    while id.exists() {
+        if test(id) {
+            return Some(id);
+        }
         id = sibling(words, id);
     }
-    id
+    None
 }
 
 // A packed word: of a new leaf, and what each part of it says.

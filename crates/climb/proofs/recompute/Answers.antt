@@ -18,11 +18,11 @@ here c =
 pub loop-id-init : goal.loop-id-init
 loop-id-init c = (omega arith, omega arith, λ g. summing_start g.view _ g.walk.list _ g.walk.part g.walk.few)
 
-pub delta-requires : goal.delta-requires
-delta-requires c = (here (goal.at.delta-requires c).In-loop-id).slot
+pub delta-d-requires : goal.delta-d-requires
+delta-d-requires c = (here (goal.at.delta-d-requires c).In-loop-id).slot
 
-pub phi-requires : goal.phi-requires
-phi-requires c = (here (goal.at.phi-requires c).In-loop-id).slot
+pub phi-p-requires : goal.phi-p-requires
+phi-p-requires c = (here (goal.at.phi-p-requires c).In-loop-id).slot
 
 pub sibling-id-requires : goal.sibling-id-requires
 sibling-id-requires c = (here (goal.at.sibling-id-requires c).In-loop-id).slot
@@ -36,7 +36,7 @@ loop-id-preserved c =
     let delta : _ ≡ _ = c.held_sum-delta.ensures in (
       omega (arith, c.loop-id.invariant.0),
       omega arith,
-      λ g. rw c.sibling-id.ensures (summing_step g.view _ g.walk.list _ _ _ _ _ (some (goal.at.loop-id-preserved c).In-loop-id) (omega (arith, c.delta.ensures)) (omega (arith, c.phi.ensures)) (c.loop-id.invariant.2 g)),
+      λ g. rw c.sibling-id.ensures (summing_step g.view _ g.walk.list _ _ _ _ _ (some (goal.at.loop-id-preserved c).In-loop-id) (omega (arith, c.delta-d.ensures)) (omega (arith, c.phi-p.ensures)) (c.loop-id.invariant.2 g)),
     )
 
 pub returns : goal.returns

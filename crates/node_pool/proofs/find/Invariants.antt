@@ -7,8 +7,8 @@ use Rattle.words.proofs.Walks.{siblings}
 use Rattle.node_pool.proofs.Seeking.{Seeking}
 use Rattle.node_pool.proofs.find.Given as goal
 
-abbrev pub invariant-loop-test : goal.invariant-loop-test
-invariant-loop-test g l = record { walk : (K : View Position) × Walkable K l.words l.id.0; seeking : Seeking (goal.F-post g l.test) l.words l.initial.id.0 l.id.0 }
+abbrev pub invariant-loop-id : goal.invariant-loop-id
+invariant-loop-id g l = record { walk : (K : View Position) × Walkable K l.words l.id.0; seeking : Seeking (goal.F-post g l.test) l.words l.initial.id.0 l.id.0 }
 
-abbrev pub decreases-loop-test : goal.decreases-loop-test
-decreases-loop-test g l = siblings pool_max l.words l.id.0
+abbrev pub decreases-loop-id : goal.decreases-loop-id
+decreases-loop-id g l = siblings pool_max l.words l.id.0
