@@ -4,14 +4,14 @@
 #![tactic(auto)]
 
 ghost use Rattle.std.specs.Prelude.{◌≡◌, true, false, ◌<◌};
-ghost use Rattle.rules.specs.Rules.{Position, move_error};
+ghost use Rattle.rules.specs.Rules.{Position, board_states, move_error};
 ghost use Rattle.rules.specs.Record.{Accepted, player_of};
 ghost use Rattle.machine.specs.Game.{value};
 ghost use Rattle.plain.specs.Plain.{game, value_of};
 ghost use Rattle.game.specs.Words.{Holds, Held};
+ghost use Rattle.game.specs.Cursor.{move_at};
 ghost use Rattle.game.specs.Moves.{Movable, Moved};
-ghost use Rattle.referee.specs.OpenCells.{open_cells};
-ghost use Rattle.referee.specs.Counting.{open_at};
+ghost use Rattle.referee.specs.OpenCells.{open_cell, open_cells};
 ghost use Rattle.referee.specs.Turns.{Turn};
 
 use game::cursor::MoveIterator;
@@ -78,7 +78,7 @@ pub fn value(pos: Game, rule: u64) -> bool
 // Whether the cell at place i is empty and its board in play.
 fn is_open(words: &[u16], base: usize, i: usize) -> bool
     requires { Held words.now base × (i < 81) }
-    ensures { (p : Position) → Holds p words.now base → result ≡ open_at p i }
+    ensures { (p : Position) → Holds p words.now base → result ≡ open_cell p (board_states p.cells) (move_at i) }
 {
     game::in_play(words, base, i / 9) && game::at(words, base, i / 9, i % 9) == CellState::Empty
 }

@@ -2,7 +2,7 @@
 -- through its moves by the same laws. Assumes nothing.
 use Rattle.std.proofs.Common.{true, false, ap, arith}
 use Rattle.prove.specs.Numbers.{verdict}
-use Rattle.referee.specs.Deciding.{at_once, start, done, movable, next_turn, fewer, less, decided, step}
+use Rattle.referee.proofs.Deciding.{at_once, start, done, movable, next_turn, fewer, less, decided, step}
 use Rattle.referee.proofs.+attack_defend.Goals as goal
 
 pub attack-returns-in-True : goal.attack-returns-in-True

@@ -1,7 +1,7 @@
 -- The measure of the two turns is the number of empty cells, and that of each loop what is left of the 81 places.
 use Rattle.std.proofs.Common.{true, false, ◌-◌}
 use Rattle.referee.specs.Turns.{empty_in}
-use Rattle.referee.specs.Deciding.{Deciding}
+use Rattle.referee.proofs.Deciding.{Deciding}
 use Rattle.referee.proofs.+attack_defend.Given as goal
 
 abbrev pub decreases-attack : goal.decreases-attack

@@ -1,6 +1,6 @@
 -- `referee::open_cells` meets its contract: the cells counted and those from the place on are all. Assumes nothing.
 use Rattle.std.proofs.Common.{◌<◌, arith}
-use Rattle.referee.specs.Counting.{start, counts, passes, done}
+use Rattle.referee.proofs.Counting.{start, counts, passes, done}
 use Rattle.referee.proofs.open_cells.Goals as goal
 use Rattle.referee.proofs.open_cells.Goals.{then-is_open, else-is_open}
 

@@ -1,5 +1,5 @@
 -- `referee::value` meets its contract: at the root it is the attacker's turn. Assumes nothing.
-use Rattle.referee.specs.Deciding.{root_turn, root_value}
+use Rattle.referee.proofs.Deciding.{root_turn, root_value}
 use Rattle.referee.proofs.value.Goals as goal
 
 pub attack-requires : goal.attack-requires
