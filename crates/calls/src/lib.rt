@@ -107,10 +107,11 @@ pub fn replay(bytes: &[u8], moves: &[u8], out: &mut [u8]) -> Result<(), ReplayEr
 {
     let start = load_for(bytes, out.len(), RECORD_LENGTH)?;
     let line = play_line(start, moves);
-    match line.result {
-        Ok(()) => Ok(record::store(out, line.game)),
-        Err(e) => Err(ReplayError::BadMove(e, line.count)),
+    if let Err(e) = line.result {
+        return Err(ReplayError::BadMove(e, line.count));
     }
+    record::store(out, line.game);
+    Ok(())
 }
 
 // Lists the legal moves of a record, and counts them.

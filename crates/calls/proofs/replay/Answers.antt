@@ -14,12 +14,12 @@ returns-in_err-start c =
 
 pub store-requires : goal.store-requires
 store-requires c =
-    let q = played_ok _ _ _ _ _ (c.play_line-line.ensures (position_of _) c.in_ok-start.ensures.position) _ c.in-Ok.is in
+    let q = played_ok _ _ _ _ _ (c.play_line-line.ensures (position_of _) c.in_ok-start.ensures.position) _ c.in_default.is in
     ((output_passes _ _ _ (sym c.in_ok-start.ensures.code)).1, (q.0, q.1))
 
-pub returns-in-Ok : goal.returns-in-Ok
-returns-in-Ok c =
-    let q = played_ok _ _ _ _ _ (c.play_line-line.ensures (position_of _) c.in_ok-start.ensures.position) _ c.in-Ok.is in
+pub returns : goal.returns
+returns c =
+    let q = played_ok _ _ _ _ _ (c.play_line-line.ensures (position_of _) c.in_ok-start.ensures.position) _ c.in_default.is in
     after_reached _ _ _ _ q.2 (c.store.ensures q.0 q.1) ∙ replay_answered _ _ _ (sym c.in_ok-start.ensures.code)
 
 pub returns-in-Err : goal.returns-in-Err
