@@ -29,10 +29,11 @@ Selects w first phi i = (K : View Position) (ks : Children Position) → Looking
     → Chosen K w first ks (first_with phi ks) i
 
 -- A list begins at `first`
-pub record Findable (w : List ℕ) (first m : ℕ) : Type 0 where
+pub record Findable (w : List ℕ) (first : ℕ) : Type 0 where
   pub view : View Position
   pub list : Children Position
-  pub looking : Looking view w first (has_move m) list first
+  pub part : Part view w list first NONE
+  pub few : size list ≤ pool_max
 
 -- r is its first child that the move m led to, if there is one
 abbrev pub Found : View Position → List ℕ → ℕ → ℕ → Children Position → Option NodeID → Type 0
@@ -40,7 +41,7 @@ Found K w first m ks r =
     MatchOption r ((t : Node Position → Bool) → holds_at t ks (first_that (has_move m) ks) ≡ false) (λ i. Chosen K w first ks (first_that (has_move m) ks) i.0)
 
 abbrev pub Finds : List ℕ → ℕ → ℕ → Option NodeID → Type 0
-Finds w first m r = (K : View Position) (ks : Children Position) → Looking K w first (has_move m) ks first → Found K w first m ks r
+Finds w first m r = (K : View Position) (ks : Children Position) → Part K w ks first NONE → size ks ≤ pool_max → Found K w first m ks r
 
 -- r says whether the node at i is within the margin
 abbrev pub Tests : List ℕ → ℕ → ℕ → Float → Bool → Type 0

@@ -32,17 +32,14 @@ pub fn select(words: &[u32], first: NodeID, phi: u32) -> NodeID
 
 // The first listed child, from `first` on, that the move led to, if there is one.
 fn find(words: &[u32], first: NodeID, mv: Move) -> Option<NodeID>
-    requires { Findable words.now first.0 mv.0 }
+    requires { Findable words.now first.0 }
     ensures { Finds words.now first.0 mv.0 result }
 {
-    let mut child = first;
-    while child.exists() {
-        if node_pool::move_in(node_pool::packed(words, child)) == mv {
-            return Some(child);
-        }
-        child = node_pool::sibling(words, child);
-    }
-    None
+    node_pool::find(
+        words,
+        first,
+        |id| node_pool::move_in(node_pool::packed(words, id)) == mv,
+    )
 }
 
 // Whether a child is unsolved, and its delta within the margin of phi.

@@ -8,7 +8,7 @@ use Rattle.descend.proofs.choose.Goals.{in_default-via-in-Off-1, in_default-via-
 use Rattle.descend.proofs.choose.Goals as goal
 
 pub find-requires : goal.find-requires
-find-requires c = rw c.remembered_in.ensures (to_find c.requires.0)
+find-requires c = to_find c.requires.0
 
 pub within_margin-requires : goal.within_margin-requires
 within_margin-requires c =
