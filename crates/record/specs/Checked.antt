@@ -42,27 +42,27 @@ and_when false n h i = refl
 
 module _ (r : Boards) (t s : ℕ) (g : Checking r t s) where
   -- the states of the nine boards
-  unfoldable pub states : Whole r.states
+  unfoldable pub states : Whole r.shown.states
   unfolding board_states
   states = record { codes = board_states g.position.cells; count = length_states g.position.cells; masks = g.shows.states }
 
-  pub states_lt : (r.states.x < 512) × (r.states.o < 512) × (r.states.rest < 512)
-  states_lt = whole_lt r.states states
+  pub states_lt : (r.shown.states.x < 512) × (r.shown.states.o < 512) × (r.shown.states.rest < 512)
+  states_lt = whole_lt r.shown.states states
 
   abbrev pub done_bits : ℕ
-  done_bits = r.states.x + r.states.o + r.states.rest
+  done_bits = r.shown.states.x + r.shown.states.o + r.shown.states.rest
 
   turn : fair_turn g.position.side (count 1 g.position.cells) (count 2 g.position.cells) ≡ eqb r.xs (r.os + s)
   turn = fair g.position.side _ _ ∙ rw (← g.xs, ← g.os, g.moves)
 
-  won : (p : Player) → s ≡ side_bit p → has_line (mark p) (board_states g.position.cells) ≡ line_in (side_mask r.states s)
+  won : (p : Player) → s ≡ side_bit p → has_line (mark p) (board_states g.position.cells) ≡ line_in (side_mask r.shown.states s)
   unfolding states
-  won X e = rw e (sym (x_line r.states states))
-  won O e = rw e (sym (o_line r.states states))
+  won X e = rw e (sym (x_line r.shown.states states))
+  won O e = rw e (sym (o_line r.shown.states states))
 
   done : t < 9 → not (eqb (code (board_states g.position.cells) t) 0) ≡ has_bit done_bits t
   unfolding states
-  done h = rw (done_mask r.states states) (sym (has_bit_of nonzero (board_states g.position.cells) t (omega (arith, length_states g.position.cells))))
+  done h = rw (done_mask r.shown.states states) (sym (has_bit_of nonzero (board_states g.position.cells) t (omega (arith, length_states g.position.cells))))
 
   done_law : (ltb t 9 && not (eqb (code (board_states g.position.cells) t) 0)) ≡ (ltb t 9 && has_bit done_bits t)
   done_law = and_when (ltb t 9) _ _ (λ e. done (ltb-true t 9 e))
@@ -70,7 +70,7 @@ module _ (r : Boards) (t s : ℕ) (g : Checking r t s) where
   -- checks 3 to 6 in the code's terms
   abbrev pub later : List ℕ
   later =
-      refuses 3 (not (eqb r.xs (r.os + s))) ∷ refuses 4 r.both ∷ refuses 5 (line_in (side_mask r.states s)) ∷ refuses 6 (ltb t 9 && has_bit done_bits t) ∷ []
+      refuses 3 (not (eqb r.xs (r.os + s))) ∷ refuses 4 r.shown.both ∷ refuses 5 (line_in (side_mask r.shown.states s)) ∷ refuses 6 (ltb t 9 && has_bit done_bits t) ∷ []
 
   -- checks 2 to 6 in the code's terms
   pub check_law : position_refusal g.position ≡ first_refusal (refuses 2 (not (ltb t 9 || eqb t 15)) ∷ later)
@@ -80,10 +80,10 @@ module _ (r : Boards) (t s : ℕ) (g : Checking r t s) where
       refl
 
   -- what the code adds up fits, and the mask of a side is nine bits
-  pub own_lt : side_mask r.states s < 512
+  pub own_lt : side_mask r.shown.states s < 512
   own_lt = go (eqb s 0)
     where
-      go : (b : Bool) → cond b r.states.x r.states.o < 512
+      go : (b : Bool) → cond b r.shown.states.x r.shown.states.o < 512
       go true = states_lt.0
       go false = states_lt.1
 

@@ -1,16 +1,16 @@
 -- Check 22 as the code makes it, on the words of a position. Rests on Reading, the game's words and the rules' record.
-use Rattle.std.specs.Prelude.{◌≡◌, refl, Bool, true, false, cond, not, ◌&&◌, List, [], ◌∷◌, ℕ, zero, suc, ◌+◌, ◌*◌, ◌<◌, ◌≤◌, eqb, ltb, length}
+use Rattle.std.specs.Prelude.{◌≡◌, refl, Bool, true, cond, not, ◌&&◌, List, [], ◌∷◌, ℕ, zero, suc, ◌+◌, ◌*◌, ◌<◌, ◌≤◌, eqb, ltb, length}
 use Rattle.std.proofs.Common.{sym, ◌∙◌, zero-add, arith, ne_eqb, ltb-true, take_all}
 use Rattle.std.proofs.Math.Path.{ap}
-use Rattle.std.proofs.Math.Bool.{and-false}
+use Rattle.std.proofs.Math.Bool.{and_comm}
 use Rattle.std.proofs.Math.Dec.{eqb-zero-suc, eqb-suc-zero}
 use Rattle.std.proofs.Math.ListN.{get_or}
-use Rattle.rules.specs.Rules.{Player, Position, all, count, board_states}
+use Rattle.rules.specs.Rules.{Position, all, count, board_states}
 use Rattle.rules.specs.Record.{side_bit, impossible_choice}
 use Rattle.rules.proofs.Tests.{both_true}
 use Rattle.game.specs.Masks.{bit, mask_of, nonzero}
 use Rattle.game.specs.Words.{Holds}
-use Rattle.record.specs.Reading.{Counting}
+use Rattle.record.specs.Reading.{Coded}
 use Rattle.record.specs.Counted.{count_le}
 
 -- no bit is set exactly if every code is 0
@@ -38,39 +38,24 @@ no_cell (c ∷ cs) h =
 
 module _ (p : Position) (ws : List ℕ) (h : Holds p ws 0) where
   -- the words of a position have its cells, to be counted for each side
-  unfoldable pub counting : (s : Player) (i : ℕ) → i ≡ side_bit s * 9 → length ws ≡ 23 → Counting ws i
-  counting s i e n = record {
-    side = s;
-    place = e;
-    coded = record {
-      cells = p.cells;
-      whole = h.whole;
-      read = record {
-        room = n;
-        masks = λ x b l. ap (λ k. get_or ws k 0) (sym (zero-add (side_bit x * 9 + b))) ∙ h.masks x b l;
-        coded = ap (all (λ c. ltb c 3)) (take_all 81 p.cells (omega (arith, h.whole))) ∙ h.codes;
-      };
+  unfoldable pub held_cells : length ws ≡ 23 → Coded ws
+  held_cells n = record {
+    cells = p.cells;
+    whole = h.whole;
+    read = record {
+      room = n;
+      masks = λ x b l. ap (λ k. get_or ws k 0) (sym (zero-add (side_bit x * 9 + b))) ∙ h.masks x b l;
+      coded = ap (all (λ c. ltb c 3)) (take_all 81 p.cells (omega (arith, h.whole))) ∙ h.codes;
     };
   }
 
   pub cells_few : (k : ℕ) → count k p.cells ≤ 81
   cells_few k = omega (arith, count_le k p.cells, h.whole)
 
-  abbrev taken : Bool
-  taken = not (eqb (count 1 p.cells + count 2 p.cells) 0)
-
-  -- check 22 in the code's terms
-  choice_law : impossible_choice p ≡ ((eqb (mask_of nonzero (board_states p.cells)) 0 && eqb (get_or ws 21 0) 15) && taken)
+  -- Check 22 in the code's terms: v says that the choice is free and no board is done, x and o count the cells.
+  pub choice_law : (v : Bool) (x o : ℕ) → v ≡ (eqb (get_or ws 21 0) 15 && eqb (mask_of nonzero (board_states p.cells)) 0) → x ≡ count 1 p.cells → o ≡ count 2 p.cells
+      → (v && not (eqb (x + o) 0)) ≡ impossible_choice p
   unfolding impossible_choice
-  choice_law = rw (no_cell p.cells h.codes, no_bit (board_states p.cells), ap (λ k. get_or ws k 0) (sym (zero-add 21)) ∙ h.target)
-
-  -- a board to play in, or a done one
-  pub led_law : (get_or ws 21 0 ≡ 15 → ⊥) → false ≡ impossible_choice p
-  led_law n = sym (choice_law ∙ rw (ne_eqb _ _ n, and-false (eqb (mask_of nonzero (board_states p.cells)) 0)))
-
-  pub done_law : (m : ℕ) → m ≡ mask_of nonzero (board_states p.cells) → (m ≡ 0 → ⊥) → false ≡ impossible_choice p
-  done_law m e n = sym (choice_law ∙ rw (← e, ne_eqb m 0 n))
-
-  -- the choice is free and no board is done
-  pub cells_law : (m x o : ℕ) → m ≡ mask_of nonzero (board_states p.cells) → m ≡ 0 → get_or ws 21 0 ≡ 15 → x ≡ count 1 p.cells → o ≡ count 2 p.cells → not (eqb (x + o) 0) ≡ impossible_choice p
-  cells_law m x o e z t ex eo = sym (choice_law ∙ rw (← e, z, t, ← ex, ← eo))
+  choice_law v x o e ex eo =
+      let free : eqb (get_or ws 21 0) 15 ≡ eqb p.target 15 = ap (λ n. eqb n 15) (ap (λ k. get_or ws k 0) (sym (zero-add 21)) ∙ h.target) in
+      rw (e, ex, eo, no_cell p.cells h.codes, no_bit (board_states p.cells), free) (ap (λ b. b && not (all (eqb 0) p.cells)) (and_comm (eqb p.target 15) (all (eqb 0) (board_states p.cells))))

@@ -77,7 +77,7 @@ module _ (r : Cells) (t s : ℕ) (g : FieldsRead r t s) where
   unfoldable pub coded : r.rest ≡ 0 → Coded r.words
   coded e = record { cells = g.position.cells; whole = g.whole; read = rw e at g.read }
 
-  unfoldable pub checking : (e : r.rest ≡ 0) (b : Boards) → Shows g.position.cells 9 (record { states = b.states; both = b.both })
+  unfoldable pub checking : (e : r.rest ≡ 0) (b : Boards) → Shows g.position.cells 9 b.shown
       → b.xs ≡ count 1 g.position.cells → b.os ≡ count 2 g.position.cells → Checking b t s
   checking e b shows xs os = record {
     position = g.position;

@@ -1,6 +1,6 @@
 -- What the code keeps of a record that is checked: the boards so far, how many cells each side has, and what was read. Rests on the rules and the reading of cells.
-use Rattle.std.specs.Prelude.{◌≡◌, true, cond, List, ℕ, ◌*◌, ◌<◌, eqb, ltb, length}
-use Rattle.rules.specs.Rules.{Player, Position, answers, all, any, count, state, board}
+use Rattle.std.specs.Prelude.{◌≡◌, true, cond, List, ℕ, ◌<◌, eqb, ltb, length}
+use Rattle.rules.specs.Rules.{Position, answers, all, any, count, state, board}
 use Rattle.rules.specs.Record.{side_bit, both_lines}
 use Rattle.cells.specs.declared.Codes.{Codes}
 use Rattle.cells.specs.declared.Cells.{Cells}
@@ -33,12 +33,6 @@ pub record Adding (r : Shown) (b : ℕ) (m : Codes) : Type 0 where
   pub shows : Shows cells b r
   pub board_masks : Masks (board cells b) m
 
--- Words that have 81 cells, and a side whose first mask is word i.
-pub record Counting (ws : List ℕ) (i : ℕ) : Type 0 where
-  pub side : Player
-  pub place : i ≡ side_bit side * 9
-  pub coded : Coded ws
-
 -- The mask of a side's code.
 abbrev pub side_mask : Codes → ℕ → ℕ
 side_mask m side = cond (eqb side 0) m.x m.o
@@ -48,7 +42,7 @@ pub record Checking (r : Boards) (target side : ℕ) : Type 0 where
   pub position : Position
   pub whole : length position.cells ≡ 81
   pub coded : all (λ c. ltb c 3) position.cells ≡ true
-  pub shows : Shows position.cells 9 (record { states = r.states; both = r.both })
+  pub shows : Shows position.cells 9 r.shown
   pub xs : r.xs ≡ count 1 position.cells
   pub os : r.os ≡ count 2 position.cells
   pub aims : target ≡ position.target

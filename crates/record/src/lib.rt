@@ -2,7 +2,8 @@
 
 #![tactic(auto)]
 
-ghost use Rattle.std.specs.Prelude.{◌≡◌, ◌&&◌, ◌||◌, eqb, ltb, [], ◌∷◌, ◌++◌, ℕ, ◌+◌, ◌*◌, ◌/◌, ◌%◌, ◌^◌, ◌<◌, ◌≤◌, IfOk, length, get_or, drop};
+ghost use Rattle.std.specs.Prelude.{◌≡◌, ◌&&◌, ◌||◌, eqb, ltb, [], ◌∷◌, ◌++◌, ℕ, ◌+◌, ◌*◌, ◌/◌, ◌%◌, ◌^◌, ◌<◌, ◌≤◌, IfOk, length, get_or, drop, sum_by};
+ghost use Rattle.std.specs.Int.Count.{ones};
 ghost use Rattle.rules.specs.Rules.{Position, mark, count, state};
 ghost use Rattle.rules.specs.Record.{number, position_of, position_refusal, refusal_to6, impossible_choice, refusal, record_bit, record_of};
 ghost use Rattle.rules.specs.Refusals.{refuses};
@@ -10,8 +11,7 @@ ghost use Rattle.refusals.specs.Numbers.{refusal_code};
 ghost use Rattle.game.specs.Masks.{has_bit};
 ghost use Rattle.game.specs.Lines.{line_in};
 ghost use Rattle.game.specs.Words.{Holds, Held};
-ghost use Rattle.record.specs.Reading.{Whole, Coded, Shows, Adding, Counting, Checking, FieldsRead, side_mask};
-ghost use Rattle.record.specs.Counted.{ones_from};
+ghost use Rattle.record.specs.Reading.{Whole, Coded, Shows, Adding, Checking, FieldsRead, side_mask};
 
 use cells::{Cells, Codes};
 use game::Game;
@@ -105,20 +105,12 @@ fn show(words: &[u16; 23]) -> Shown
     shown
 }
 
-// How many bits the masks in words i, i + 1 and i + 2 have.
-fn count_row(words: &[u16; 23], i: usize) -> u32
-    requires { (i ≤ 15) × ((j : ℕ) → j < 3 → get_or words.now (i + j) 0 < 512) }
-    ensures { (result ≡ ones_from words.now i 3) × (result ≤ 27) }
+// How many cells a side has, from its nine masks.
+fn count_cells(masks: &[u16]) -> u32
+    requires { length masks.now ≤ 9 }
+    ensures { result ≡ sum_by ones masks.now }
 {
-    (words[i] as u32 + words[i + 1] as u32 * 512 + words[i + 2] as u32 * 262144).count_ones()
-}
-
-// How many cells a side has; i is 0 for X, 9 for O.
-fn count_cells(words: &[u16; 23], i: usize) -> u32
-    requires { Counting words.now i }
-    ensures { (g : Counting words.now i) → result ≡ count (mark g.side) g.coded.cells }
-{
-    count_row(words, i) + count_row(words, i + 3) + count_row(words, i + 6)
+    masks.iter().map(|m| m.count_ones()).sum()
 }
 
 // The mask of the side to move.
@@ -128,13 +120,12 @@ fn of_side(codes: Codes, side: u8) -> u16
     if side == 0 { codes.x } else { codes.o }
 }
 
-// What checks 3 to 6 look at: the boards' states, how many cells each side has, and whether a board has lines of both sides.
+// What checks 3 to 6 look at: what the boards show, and how many cells each side has.
 #[derive(Clone, Copy)]
 struct Boards {
-    states: Codes,
+    shown: Shown,
     xs: u32,
     os: u32,
-    both: bool,
 }
 
 // Whether a target names a board, or leaves the choice free.
@@ -162,11 +153,11 @@ fn check(boards: Boards, target: u8, side: u8) -> Result<(), Refusal>
     if !is_target(target) {
         return Err(Refusal::Codes);
     }
-    let states = boards.states;
+    let states = boards.shown.states;
     let done = states.x + states.o + states.rest;
     refusals::first(&[
         (boards.xs != boards.os + side as u32, Refusal::Counts),
-        (boards.both, Refusal::TwoLines),
+        (boards.shown.both, Refusal::TwoLines),
         (game::line(of_side(states, side)), Refusal::LineOfBoards),
         (names_done(target, done), Refusal::DoneTarget),
     ])
@@ -183,17 +174,15 @@ pub fn load_fields(read: Cells, target: u8, side: u8) -> Result<Game, Refusal>
     }
     let mut words = read.words;
     let shown = show(&words);
-    let states = shown.states;
     let boards = Boards {
-        states,
-        xs: count_cells(&words, 0),
-        os: count_cells(&words, 9),
-        both: shown.both,
+        shown,
+        xs: count_cells(&words[..9]),
+        os: count_cells(&words[9..18]),
     };
     check(boards, target, side)?;
-    words[X_WON] = states.x;
-    words[O_WON] = states.o;
-    words[DRAWN] = states.rest;
+    words[X_WON] = shown.states.x;
+    words[O_WON] = shown.states.o;
+    words[DRAWN] = shown.states.rest;
     words[TARGET] = target as u16;
     words[SIDE] = side as u16;
     Ok(Game { words })
@@ -222,13 +211,9 @@ fn impossible_choice(words: &[u16; 23]) -> bool
     requires { Held words.now 0 }
     ensures { (p : Position) → Holds p words.now 0 → result ≡ impossible_choice p }
 {
-    if words[TARGET] != FREE_CHOICE {
-        return false;
-    }
-    if game::done_bits(words, 0) != 0 {
-        return false;
-    }
-    count_cells(words, 0) + count_cells(words, 9) != 0
+    words[TARGET] == FREE_CHOICE
+        && game::done_bits(words, 0) == 0
+        && count_cells(&words[..9]) + count_cells(&words[9..18]) != 0
 }
 
 // Check 22, of a position that checks 1 to 6 let pass.

@@ -1,39 +1,42 @@
--- `record::impossible_choice` meets its contract: the three conditions, the target first. Assumes nothing.
-use mathlib.Core.Path.{refl}
-use native.Mathlib.Omega.{arith}
-use Rattle.rules.specs.Rules.{Position}
+-- `record::impossible_choice` meets its contract: the choice is free and no board is done, and then the cells are counted. Assumes nothing.
+use Rattle.std.specs.Prelude.{◌≡◌, refl, ◌&&◌, eqb, get_or}
+use Rattle.std.proofs.Common.{◌∙◌, arith, ne_eqb}
+use Rattle.rules.specs.Rules.{Position, board_states, count}
 use Rattle.rules.specs.Rules.Player.{X, O}
+use Rattle.game.specs.Masks.{mask_of, nonzero}
 use Rattle.game.specs.Words.{Holds}
-use Rattle.record.specs.Reading.{Counting}
-use Rattle.record.specs.Choosing.{counting, cells_few, led_law, done_law, cells_law}
-use Rattle.record.proofs.impossible_choice.Goals.{Else-done_bits-ne0}
+use Rattle.record.specs.Counted.{counted}
+use Rattle.record.specs.Choosing.{held_cells, cells_few, choice_law}
+use Rattle.record.proofs.impossible_choice.Goals.{After-count_cells-then-done_bits-eq0, Else-done_bits-eq0, then-words-eq-FREE_CHOICE, else-words-eq-FREE_CHOICE}
 use Rattle.record.proofs.impossible_choice.Goals as goal
 
-pub returns-then-words-ne-FREE_CHOICE : goal.returns-then-words-ne-FREE_CHOICE
-returns-then-words-ne-FREE_CHOICE c p h = led_law p _ h c.if-words-ne-FREE_CHOICE.true
+abbrev xs : (c : After-count_cells-then-done_bits-eq0) (p : Position) → Holds p c.args.words.now 0 → c.count_cells.result ≡ count 1 p.cells
+unfolding held_cells
+xs c p h = c.count_cells.ensures ∙ counted _ (held_cells p _ h c.told-words) X
 
-pub returns-then-done_bits-ne0 : goal.returns-then-done_bits-ne0
-returns-then-done_bits-ne0 c p h = done_law p _ h _ (c.done_bits.ensures p h) c.if-done_bits-ne0.true
-
-abbrev counting-x : (c : Else-done_bits-ne0) (p : Position) → Holds p c.args.words.now 0 → Counting c.args.words.now 0
-counting-x c p h = counting p _ h X 0 refl (omega arith)
-
-abbrev counting-o : (c : Else-done_bits-ne0) (p : Position) → Holds p c.args.words.now 0 → Counting c.args.words.now 9
-counting-o c p h = counting p _ h O 9 refl (omega arith)
-
-pub count_cells-requires : goal.count_cells-requires
-count_cells-requires c = counting-x (goal.at.count_cells-requires c).Else-done_bits-ne0 _ c.requires.1
-
-pub count_cells-requires-2 : goal.count_cells-requires-2
-count_cells-requires-2 c = counting-o (goal.at.count_cells-requires-2 c).Else-done_bits-ne0 _ c.requires.1
+abbrev os : (c : After-count_cells-then-done_bits-eq0) (p : Position) → Holds p c.args.words.now 0 → c.count_cells-then-done_bits-eq0.result ≡ count 2 p.cells
+unfolding held_cells
+os c p h = c.count_cells-then-done_bits-eq0.ensures ∙ counted _ (held_cells p _ h c.told-words) O
 
 pub overflow_add-result : goal.overflow_add-result
-unfolding counting
 overflow_add-result c =
-    omega (arith, c.count_cells.ensures (counting-x (goal.at.overflow_add-result c).Else-done_bits-ne0 _ c.requires.1), c.count_cells-2.ensures (counting-o (goal.at.overflow_add-result c).Else-done_bits-ne0 _ c.requires.1), cells_few _ _ c.requires.1 1, cells_few _ _ c.requires.1 2)
+    let at = (goal.at.overflow_add-result c).After-count_cells-then-done_bits-eq0 in
+    omega (arith, xs at _ c.requires.1, os at _ c.requires.1, cells_few _ _ c.requires.1 1, cells_few _ _ c.requires.1 2)
 
-pub returns : goal.returns
-unfolding counting
-returns c p h =
-    cells_law p _ h _ _ _ (c.done_bits.ensures p h) c.if-done_bits-ne0.false c.if-words-ne-FREE_CHOICE.false
-    (c.count_cells.ensures (counting-x (goal.at.returns c).Else-done_bits-ne0 p h)) (c.count_cells-2.ensures (counting-o (goal.at.returns c).Else-done_bits-ne0 p h))
+pub returns-then-done_bits-eq0 : goal.returns-then-done_bits-eq0
+returns-then-done_bits-eq0 c p h =
+    let free : c.if-words-eq-FREE_CHOICE.value ≡ (eqb (get_or c.args.words.now 21 0) 15 && eqb (mask_of nonzero (board_states p.cells)) 0) =
+    elim c.if-words-eq-FREE_CHOICE.branch [
+      | then-words-eq-FREE_CHOICE w ↦ rw w.if-words-eq-FREE_CHOICE.true (w.value-is ∙ rw (w.done_bits.ensures p h))
+      | else-words-eq-FREE_CHOICE w ↦ rw (ne_eqb _ _ w.if-words-eq-FREE_CHOICE.false) (w.value-is ∙ ne_eqb _ _ w.if-words-eq-FREE_CHOICE.false)
+    ] in
+    rw c.if-done_bits-eq0.true at (choice_law p _ h _ _ _ free (xs c p h) (os c p h))
+
+pub returns-else-done_bits-eq0 : goal.returns-else-done_bits-eq0
+returns-else-done_bits-eq0 c p h =
+    let free : c.if-words-eq-FREE_CHOICE.value ≡ (eqb (get_or c.args.words.now 21 0) 15 && eqb (mask_of nonzero (board_states p.cells)) 0) =
+    elim c.if-words-eq-FREE_CHOICE.branch [
+      | then-words-eq-FREE_CHOICE w ↦ rw w.if-words-eq-FREE_CHOICE.true (w.value-is ∙ rw (w.done_bits.ensures p h))
+      | else-words-eq-FREE_CHOICE w ↦ rw (ne_eqb _ _ w.if-words-eq-FREE_CHOICE.false) (w.value-is ∙ ne_eqb _ _ w.if-words-eq-FREE_CHOICE.false)
+    ] in
+    c.if-done_bits-eq0.false ∙ rw c.if-done_bits-eq0.false at (choice_law p _ h _ _ _ free refl refl)

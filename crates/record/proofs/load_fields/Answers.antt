@@ -1,44 +1,29 @@
 -- `record::load_fields` meets its contract: check 2 of the cells, and then the checks of the position; its words hold it. Assumes nothing.
-use mathlib.Core.Path.{refl, sym}
+use mathlib.Core.Path.{sym, ◌∙◌}
 use Rattle.std.proofs.lemmas.Result.{err_from_is_err_and}
 use Rattle.rules.specs.Rules.{board_states}
 use Rattle.rules.specs.Rules.Player.{X, O}
 use Rattle.record.specs.declared.Boards.{Boards}
-use Rattle.record.specs.Reading.{Coded, Counting, Checking, FieldsRead}
+use Rattle.record.specs.Reading.{Coded, Checking, FieldsRead}
+use Rattle.record.specs.Counted.{counted}
 use Rattle.record.specs.Loading.{refused_code, coded, checking, holds}
-use Rattle.record.proofs.load_fields.Goals.{After-count_cells-2, Else-read-ne0}
+use Rattle.record.proofs.load_fields.Goals.{After-count_cells-2}
 use Rattle.record.proofs.load_fields.Goals as goal
-
-abbrev words-coded : (c : Else-read-ne0) → FieldsRead c.args.read c.args.target c.args.side → Coded c.args.read.words
-words-coded c g = coded _ _ _ g c.if-read-ne0.false
-
-abbrev counting-x : (c : Else-read-ne0) → FieldsRead c.args.read c.args.target c.args.side → Counting c.args.read.words 0
-counting-x c g = record { side = X; place = refl; coded = words-coded c g }
-
-abbrev counting-o : (c : Else-read-ne0) → FieldsRead c.args.read c.args.target c.args.side → Counting c.args.read.words 9
-counting-o c g = record { side = O; place = refl; coded = words-coded c g }
 
 pub returns-then-read-ne0-clause-code : goal.returns-then-read-ne0-clause-code
 returns-then-read-ne0-clause-code c g = refused_code _ _ _ g c.if-read-ne0.true
 
 pub show-shown-requires : goal.show-shown-requires
-show-shown-requires c = words-coded (goal.at.show-shown-requires c).Else-read-ne0 c.requires
-
-pub count_cells-requires : goal.count_cells-requires
-count_cells-requires c = counting-x (goal.at.count_cells-requires c).Else-read-ne0 c.requires
-
-pub count_cells-requires-2 : goal.count_cells-requires-2
-count_cells-requires-2 c = counting-o (goal.at.count_cells-requires-2 c).Else-read-ne0 c.requires
+show-shown-requires c = coded _ _ _ c.requires c.if-read-ne0.false
 
 abbrev boards : After-count_cells-2 → Boards
-boards c =
-    record { states = c.show-shown.result.states; xs = c.count_cells.result; os = c.count_cells-2.result; both = c.show-shown.result.both }
+boards c = record { shown = c.show-shown.result; xs = c.count_cells.result; os = c.count_cells-2.result }
 
 abbrev checked : (c : After-count_cells-2) → FieldsRead c.args.read c.args.target c.args.side → Checking (boards c) c.args.target c.args.side
 unfolding coded
 checked c g =
-    checking _ _ _ g c.if-read-ne0.false (boards c) (c.show-shown.ensures (coded _ _ _ g c.if-read-ne0.false))
-    (c.count_cells.ensures (record { side = X; place = refl; coded = coded _ _ _ g c.if-read-ne0.false })) (c.count_cells-2.ensures (record { side = O; place = refl; coded = coded _ _ _ g c.if-read-ne0.false }))
+    let cells : Coded c.args.read.words = coded _ _ _ g c.if-read-ne0.false in
+    checking _ _ _ g c.if-read-ne0.false (boards c) (c.show-shown.ensures cells) (c.count_cells.ensures ∙ counted _ cells X) (c.count_cells-2.ensures ∙ counted _ cells O)
 
 pub check-requires : goal.check-requires
 check-requires c = checked (goal.at.check-requires c).After-count_cells-2 c.requires
