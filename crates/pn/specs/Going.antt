@@ -1,8 +1,9 @@
 -- A search of a position between two rounds, as its code keeps it, and its result. Rests on prover's Stands, expand's counter_max, Courses, Ticks, Root and Results.
-use Rattle.std.specs.Prelude.{◌≡◌, refl, true, false, ◌||◌, List, ℕ, ◌+◌, ◌*◌, ◌≤◌, ◌<◌, eqb, length, get_or}
+use Rattle.std.specs.Prelude.{◌≡◌, refl, Option, Some, None, IsSome, IsNone, ◌||◌, List, ℕ, ◌+◌, ◌*◌, ◌≤◌, ◌<◌, eqb, length, get_or}
 use Rattle.std.proofs.Math.Path.{ap, sym}
-use Rattle.std.proofs.Common.{◌∙◌, true≢false}
-use Rattle.std.proofs.Math.Bool.{cond}
+use Rattle.std.proofs.lemmas.Option.{none-some}
+use Rattle.std.proofs.Common.{◌∙◌, arith, true≢false}
+use Rattle.std.proofs.Math.Bool.{true, cond}
 use Rattle.rules.specs.Rules.{Position, count}
 use Rattle.machine.specs.Tree.{solved, proof_of, disproof_of}
 use Rattle.machine.specs.Machine as machine
@@ -21,10 +22,12 @@ use Rattle.stay.specs.Margin.{stay_of, StayInRange}
 use Rattle.pn.specs.Ticks.{Ticks}
 use Rattle.pn.specs.Courses.{Leads, Ends, Spent, leads_again}
 use Rattle.pn.specs.Root.{root_place, root_held}
-use Rattle.pn.specs.Results.{machine_settings, result_of}
+use Rattle.pn.specs.Results.{machine_settings, cause_number, result_of}
 use Rattle.pn.specs.declared.Settings.{Settings}
 use Rattle.pn.specs.declared.Running.{Running}
 use Rattle.pn.specs.declared.SearchResult.{SearchResult}
+use Rattle.pn.specs.declared.Cause.{Cause}
+use Rattle.pn.specs.declared.Cause.TheVariants.{Solved, Budget, Pool, Limit}
 
 -- the policy of the settings, for a search of p
 abbrev pub policy_for : (s : Settings) (p : Position) → machine.Policy (game_of s.rule p)
@@ -54,18 +57,29 @@ pub record Going (p : Position) (s : Settings) (w path ps : List ℕ) (x : Runni
   pub ok : StateOk (game_of s.rule p) p (capacity w) at
   pub few : count 0 p.cells ≤ 81
   pub allocated_most : at.counts.allocated ≤ 1 + 81 * at.counts.expanded
-  pub onward : x.stop ≡ false
+  pub onward : IsNone x.stop
       → Leads (game_of s.rule p) (policy_for s p) (machine_settings w s) p at × Ticks s.interval at.counts.expanded x.tick
-  pub ended : x.stop ≡ true → Ends (game_of s.rule p) (policy_for s p) (machine_settings w s) p at x.cause
-  pub spent : x.stop ≡ true → x.cause ≡ 1
+  pub ended : (c : Cause) → x.stop ≡ Some c → Ends (game_of s.rule p) (policy_for s p) (machine_settings w s) p at (cause_number c)
+  pub spent : x.stop ≡ Some Budget
       → Spent (game_of s.rule p) (policy_for s p) (machine_settings w s) p at × Ticks s.interval at.counts.expanded x.tick
+
+-- the cause that a stopped search has; 1 is the budget's number alone
+stopped_by : (o : Option Cause) → IsSome o → (c : Cause) × (o ≡ Some c)
+stopped_by None e = absurd (true≢false (sym e))
+stopped_by (Some c) e = (c, refl)
+
+one_budget : (c : Cause) → cause_number c ≡ 1 → c ≡ Budget
+one_budget Solved e = absurd (omega arith)
+one_budget Budget e = refl
+one_budget Pool e = absurd (omega arith)
+one_budget Limit e = absurd (omega arith)
 
 -- the same settings with another budget, and a search that takes up again
 abbrev pub with_budget : Settings → ℕ → Settings
 with_budget s b = record { rule = s.rule; limit = s.limit; budget = b; interval = s.interval; stay = s.stay }
 
 abbrev pub again : Running → Running
-again x = record { prover = x.prover; tick = x.tick; stop = false; cause = 0 }
+again x = record { prover = x.prover; tick = x.tick; stop = None }
 
 module _ (p : Position) (s : Settings) (w path ps : List ℕ) (x : Running) (g : Going p s w path ps x) where
   -- the root stands at place 0 of the path
@@ -93,9 +107,9 @@ module _ (p : Position) (s : Settings) (w path ps : List ℕ) (x : Running) (g :
   solved_is = rw (going_root.phi_is, going_root.delta_is)
 
   -- spent, it goes on with more budget
-  pub goes_again : x.stop ≡ true → x.cause ≡ 1 → (b : ℕ) → s.budget ≤ b → Going p (with_budget s b) w path ps (again x)
-  goes_again e c b l =
-      let h = g.spent e c in
+  pub goes_again : x.stop ≡ Some Budget → (b : ℕ) → s.budget ≤ b → Going p (with_budget s b) w path ps (again x)
+  goes_again e b l =
+      let h = g.spent e in
       let m : MoreBudget (machine_settings w s) (machine_settings w (with_budget s b)) = record { pool = refl; limit = refl; interval = refl; budget = l } in
       record {
         at = g.at;
@@ -104,27 +118,30 @@ module _ (p : Position) (s : Settings) (w path ps : List ℕ) (x : Running) (g :
         few = g.few;
         allocated_most = g.allocated_most;
         onward = λ q. (leads_again (game_of s.rule p) (policy_for s p) (machine_settings w s) (machine_settings w (with_budget s b)) p g.at m h.0, h.1);
-        ended = λ q. absurd (true≢false (sym q));
-        spent = λ q. absurd (true≢false (sym q));
+        ended = λ c q. absurd (none-some c q);
+        spent = λ q. absurd (none-some Budget q);
       }
 
   -- the plain machine's result has cause 1 exactly where the search stopped with it
-  pub cause_spent : x.stop ≡ true → (search_of s.rule (machine_settings w s) p).cause ≡ 1 → x.cause ≡ 1
+  pub cause_spent : IsSome x.stop → (search_of s.rule (machine_settings w s) p).cause ≡ 1 → x.stop ≡ Some Budget
   unfolding search_of machine.search
-  cause_spent e c = (cause_one (game_of s.rule p) (g.at, x.cause) (sym (ap (λ (r : machine.Result). r.cause) (g.ended e)) ∙ c)).0
+  cause_spent e q =
+      let h = stopped_by x.stop e in
+      let one = (cause_one (game_of s.rule p) (g.at, cause_number h.0) (sym (ap (λ (r : machine.Result). r.cause) (g.ended h.0 h.1)) ∙ q)).0 in
+      h.1 ∙ ap (λ (c : Cause). Some c) (one_budget h.0 one)
 
-  pub spent_cause : x.stop ≡ true → x.cause ≡ 1 → (search_of s.rule (machine_settings w s) p).cause ≡ 1
+  pub spent_cause : x.stop ≡ Some Budget → (search_of s.rule (machine_settings w s) p).cause ≡ 1
   unfolding search_of machine.search machine.result
-  spent_cause e c = ap (λ (r : machine.Result). r.cause) (g.ended e) ∙ ap (λ b. cond b 0 x.cause) (g.spent e c).0.unsolved ∙ c
+  spent_cause e = ap (λ (r : machine.Result). r.cause) (g.ended Budget e) ∙ ap (λ b. cond b 0 1) (g.spent e).0.unsolved
 
   -- the result, from the root's words and the counts
-  pub going_result : x.stop ≡ true → (r : SearchResult)
+  pub going_result : (c : Cause) → x.stop ≡ Some c → (r : SearchResult)
       → r.proof ≡ word w (get_or path 0 0) PHI → r.disproof ≡ word w (get_or path 0 0) DELTA → verdict r.verdict ≡ machine.verdict_of r.proof r.disproof
       → r.allocated ≡ x.prover.pool.allocated → r.freed ≡ x.prover.pool.freed → r.proved ≡ x.prover.proved → r.disproved ≡ x.prover.disproved
-      → r.expanded ≡ x.prover.expanded → r.cause ≡ cond (eqb r.proof 0 || eqb r.disproof 0) 0 x.cause
+      → r.expanded ≡ x.prover.expanded → cause_number r.cause ≡ cond (eqb r.proof 0 || eqb r.disproof 0) 0 (cause_number c)
       → result_of r ≡ search_of s.rule (machine_settings w s) p
   unfolding search_of machine.search machine.result
-  going_result e r ep ed ev ea ef eo en ee ec =
+  going_result c e r ep ed ev ea ef eo en ee ec =
       let st = g.stands in
       rw (ev, ec, ep, ed, ea, ef, eo, en, ee, st.tree.allocated_is, st.tree.freed_is, st.proved_is, st.disproved_is, st.expanded_is, ← solved_is, ← proof_is, ← disproof_is)
-      (sym (g.ended e))
+      (sym (g.ended c e))

@@ -1,4 +1,4 @@
--- What the code's settings and result are to the plain machine. Definitions alone; rests on machine, prove, stay and words.
+-- What the code's settings, causes and result are to the plain machine. Definitions alone; rests on machine, prove, stay and words.
 use Rattle.std.specs.Prelude.{List, ℕ}
 use Rattle.machine.specs.Machine as machine
 use Rattle.prove.specs.Numbers.{verdict}
@@ -6,10 +6,19 @@ use Rattle.words.specs.Words.{capacity}
 use Rattle.stay.specs.Margin.{stay_of}
 use Rattle.pn.specs.declared.Settings.{Settings}
 use Rattle.pn.specs.declared.SearchResult.{SearchResult}
+use Rattle.pn.specs.declared.Cause.{Cause}
+use Rattle.pn.specs.declared.Cause.TheVariants.{Solved, Budget, Pool, Limit}
 
 -- the machine's settings, with the capacity in nodes of a pool of these words
 abbrev pub machine_settings : List ℕ → Settings → machine.Settings
 machine_settings w s = record { pool = capacity w; limit = s.limit; budget = s.budget; interval = s.interval; stay = stay_of s.stay }
+
+-- a cause as the machine has it
+abbrev pub cause_number : Cause → ℕ
+cause_number Solved = 0
+cause_number Budget = 1
+cause_number Pool = 2
+cause_number Limit = 3
 
 -- the nine fields of a SearchResult as the machine has them
 abbrev pub result_of : SearchResult → machine.Result
@@ -22,5 +31,5 @@ result_of r = record {
   proved = r.proved;
   disproved = r.disproved;
   expanded = r.expanded;
-  cause = r.cause;
+  cause = cause_number r.cause;
 }

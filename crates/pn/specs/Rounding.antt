@@ -1,11 +1,12 @@
 -- A round of a search: what stands after each step, and how the search goes on from there. Rests on Going, the machine's rounds and the contracts of the steps.
-use Rattle.std.specs.Prelude.{◌≡◌, refl, Bool, List, [], ◌∷◌, ℕ, suc, ◌+◌, ◌*◌, ◌-◌, ◌%◌, ◌≤◌, ◌<◌, eqb, length}
+use Rattle.std.specs.Prelude.{◌≡◌, refl, Bool, Some, IsNone, is_some, List, [], ◌∷◌, ℕ, suc, ◌+◌, ◌*◌, ◌-◌, ◌%◌, ◌≤◌, ◌<◌, eqb, length}
 use Rattle.std.proofs.Math.Path.{ap}
 use Rattle.std.proofs.Common.{sym, ◌∙◌, subst, true≢false}
 use Rattle.std.proofs.Math.Bool.{true, false, and-false}
 use native.Mathlib.Omega.{arith}
 use Rattle.std.proofs.Math.Decide.{ℕ_discrete, dec_lt}
 use borrow.Author.Tests.{lt-ltb, le-ltb}
+use Rattle.std.proofs.lemmas.Option.{same_Some}
 use Rattle.rules.specs.Rules.{Position, game_state, count}
 use Rattle.rules.proofs.Legal.{legal}
 use Rattle.rules.proofs.LegalMoves.{in_legal, moves_few}
@@ -28,11 +29,13 @@ use Rattle.prover.specs.Stands.{Stands, Searching}
 use Rattle.stay.specs.Margin.{stay_of}
 use Rattle.pn.specs.Ticks.{Ticks, tick_some, tick_due, tick_again, tick_not_due, tick_next}
 use Rattle.pn.specs.Courses.{Leads, Ends, Spent, ends_solved, ends_spent, ends_short, ends_over, leads_on}
-use Rattle.pn.specs.Results.{machine_settings}
+use Rattle.pn.specs.Results.{machine_settings, cause_number}
 use Rattle.pn.specs.Going.{Going, Ranges, policy_for, settings_long}
 use Rattle.pn.specs.Ticked.{Ticked}
 use Rattle.pn.specs.declared.Settings.{Settings}
 use Rattle.pn.specs.declared.Running.{Running}
+use Rattle.pn.specs.declared.Cause.{Cause}
+use Rattle.pn.specs.declared.Cause.TheVariants.{Solved, Budget, Pool, Limit}
 
 -- step 5 allocates nothing
 climb_allocated : (G : Game) (up : List (machine.Ancestor G.Pos)) (c : machine.Counts) (n : Node G.Pos) (ks : Children G.Pos) → (machine.climb G up c n ks).counts.allocated ≡ c.allocated
@@ -75,21 +78,23 @@ module _ (p : Position) (s : Settings) (w : List ℕ) where
     ok' : StateOk G p (capacity w') t
     ok' = subst (λ (T : machine.Settings). StateOk G p T.pool t) same ok
 
-    pub goes_no_further : y.stop ≡ true → Ends G P S p t y.cause
-        → (y.cause ≡ 1 → Spent G P S p t × Ticks s.interval t.counts.expanded y.tick)
+    pub goes_no_further : (c : Cause) → y.stop ≡ Some c → Ends G P S p t (cause_number c)
+        → (c ≡ Budget → Spent G P S p t × Ticks s.interval t.counts.expanded y.tick)
         → Going p s w' path' ps' y
-    goes_no_further e ends spent = record {
+    goes_no_further c e ends spent = record {
       at = t;
       stands = stands;
       ok = ok';
       few = few;
       allocated_most = most;
-      onward = λ q. absurd (true≢false (sym e ∙ q));
-      ended = λ q. subst (λ (T : machine.Settings). Ends G P T p t y.cause) same ends;
-      spent = λ q c. (subst (λ (T : machine.Settings). Spent G P T p t) same (spent c).0, (spent c).1);
+      onward = λ q. absurd (true≢false (sym (ap is_some e) ∙ q));
+      ended = λ d q. subst (λ (T : machine.Settings). Ends G P T p t (cause_number d)) same (subst (λ (k : Cause). Ends G P S p t (cause_number k)) (same_Some c d (sym e ∙ q)) ends);
+      spent = λ q.
+          let h = spent (same_Some c Budget (sym e ∙ q)) in
+          (subst (λ (T : machine.Settings). Spent G P T p t) same h.0, h.1);
     }
 
-    pub goes_on : y.stop ≡ false → Leads G P S p t
+    pub goes_on : IsNone y.stop → Leads G P S p t
         → Ticks s.interval t.counts.expanded y.tick → Going p s w' path' ps' y
     goes_on e leads ticks = record {
       at = t;
@@ -98,12 +103,12 @@ module _ (p : Position) (s : Settings) (w : List ℕ) where
       few = few;
       allocated_most = most;
       onward = λ q. (subst (λ (T : machine.Settings). Leads G P T p t) same leads, ticks);
-      ended = λ q. absurd (true≢false (sym q ∙ e));
-      spent = λ q. absurd (true≢false (sym q ∙ e));
+      ended = λ c q. absurd (true≢false (sym (ap is_some q) ∙ e));
+      spent = λ q. absurd (true≢false (sym (ap is_some q) ∙ e));
     }
 
   -- a round from a search that goes on
-  module _ (path ps : List ℕ) (x : Running) (g : Going p s w path ps x) (ranges : Ranges w s) (going : x.stop ≡ false) where
+  module _ (path ps : List ℕ) (x : Running) (g : Going p s w path ps x) (ranges : Ranges w s) (going : IsNone x.stop) where
     -- what descending asks for
     unfoldable pub to_search : Searching w path ps x.prover
     to_search = record { rule = s.rule; side = p.side; start = p; at = g.at; stands = g.stands; ok = g.ok; few = g.few }
@@ -118,17 +123,17 @@ module _ (p : Position) (s : Settings) (w : List ℕ) where
     ticks = (g.onward going).1
 
     -- step 1, and before it the root solved
-    pub stop_solved : solved (machine.root g.at) ≡ true → (y : Running) → y.prover ≡ x.prover → y.stop ≡ true → y.cause ≡ 0 → Going p s w path ps y
-    stop_solved e y ey es ec =
-        goes_no_further w path ps refl g.few y g.at (subst (λ z. Stands s.rule p.side w path ps z g.at) (sym ey) g.stands) g.ok g.allocated_most es
-        (rw ec (ends_solved G P S p g.at leads e)) (λ c. absurd (omega arith))
+    pub stop_solved : solved (machine.root g.at) ≡ true → (y : Running) → y.prover ≡ x.prover → y.stop ≡ Some Solved → Going p s w path ps y
+    stop_solved e y ey es =
+        goes_no_further w path ps refl g.few y g.at (subst (λ z. Stands s.rule p.side w path ps z g.at) (sym ey) g.stands) g.ok g.allocated_most Solved es
+        (ends_solved G P S p g.at leads e) (λ c. absurd (omega (arith, ap cause_number c)))
 
     pub stop_spent : x.prover.expanded ≡ s.budget → solved (machine.root g.at) ≡ false
-        → (y : Running) → y.prover ≡ x.prover → y.tick ≡ x.tick → y.stop ≡ true → y.cause ≡ 1 → Going p s w path ps y
-    stop_spent e u y ey et es ec =
+        → (y : Running) → y.prover ≡ x.prover → y.tick ≡ x.tick → y.stop ≡ Some Budget → Going p s w path ps y
+    stop_spent e u y ey et es =
         let h = ends_spent G P S p g.at leads (sym g.stands.expanded_is ∙ e) u in
-        goes_no_further w path ps refl g.few y g.at (subst (λ z. Stands s.rule p.side w path ps z g.at) (sym ey) g.stands) g.ok g.allocated_most es
-        (rw ec (ap (machine.result G) h.here)) (λ c. (h, subst (Ticks s.interval expanded) (sym et) ticks))
+        goes_no_further w path ps refl g.few y g.at (subst (λ z. Stands s.rule p.side w path ps z g.at) (sym ey) g.stands) g.ok g.allocated_most Budget es
+        (ap (machine.result G) h.here) (λ c. (h, subst (Ticks s.interval expanded) (sym et) ticks))
 
     module _ (unsolved : solved (machine.root g.at) ≡ false) (more : x.prover.expanded ≡ s.budget → ⊥) where
       more' : expanded ≡ s.budget → ⊥
@@ -152,10 +157,10 @@ module _ (p : Position) (s : Settings) (w : List ℕ) where
 
       -- step 3: short of nodes at the leaf
       pub stop_short : (w' path' ps' : List ℕ) (y : Running) → length w' ≡ length w → Stands s.rule p.side w' path' ps' y.prover t → machine.short G P S t ≡ true
-          → y.stop ≡ true → y.cause ≡ 2 → Going p s w' path' ps' y
-      stop_short w' path' ps' y long st b es ec =
-          goes_no_further w' path' ps' long g.few y _ st leaf_ok (rw leaf.counts_same g.allocated_most) es
-          (rw ec (ends_short G P S p g.at leads more' unsolved b)) (λ c. absurd (omega arith))
+          → y.stop ≡ Some Pool → Going p s w' path' ps' y
+      stop_short w' path' ps' y long st b es =
+          goes_no_further w' path' ps' long g.few y _ st leaf_ok (rw leaf.counts_same g.allocated_most) Pool es
+          (ends_short G P S p g.at leads more' unsolved b) (λ c. absurd (omega (arith, ap cause_number c)))
 
       module _ (enough : machine.short G P S t ≡ false) where
         abbrev after : machine.State Position
@@ -227,11 +232,10 @@ module _ (p : Position) (s : Settings) (w : List ℕ) where
           over : x.tick ≡ 1 → s.limit < live → Going p s w' path' ps' y
           unfolding machine.over_limit
           over e l =
-              goes_no_further w' path' ps' long g.few y after stands' rounded.0 rounded_most (ticked.over e l).0
-              (rw (ticked.over e l).1
+              goes_no_further w' path' ps' long g.few y after stands' rounded.0 rounded_most Limit (ticked.over e l)
               (ends_over G P S p g.at leads more' unsolved enough
-              (rw (due true (tick_due s.interval expanded x.tick ranges.interval_some ticks e), live_is, lt-ltb s.limit live l))))
-              (λ c. absurd (omega (arith, (ticked.over e l).1)))
+              (rw (due true (tick_due s.interval expanded x.tick ranges.interval_some ticks e), live_is, lt-ltb s.limit live l)))
+              (λ c. absurd (omega (arith, ap cause_number c)))
 
           pub goes_after : Going p s w' path' ps' y
           goes_after = go (ℕ_discrete x.tick 1) (dec_lt s.limit live)

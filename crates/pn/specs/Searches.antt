@@ -1,6 +1,7 @@
 -- A whole search: what it asks for, what it comes to, and its loop. Rests on Beginning and Stepping.
-use Rattle.std.specs.Prelude.{◌≡◌, refl, true, false, List, ℕ, ◌-◌, ◌<◌, length}
-use Rattle.std.proofs.Common.{ap, sym, ◌∙◌, subst, true≢false, arith}
+use Rattle.std.specs.Prelude.{◌≡◌, refl, None, IsSome, IsNone, List, ℕ, ◌-◌, ◌<◌, length}
+use Rattle.std.proofs.Common.{ap, ◌∙◌, subst, arith}
+use Rattle.std.proofs.lemmas.Option.{none-some}
 use Rattle.rules.specs.Rules.{Position}
 use Rattle.rules.specs.Record.{Accepted, side_bit}
 use Rattle.game.specs.Words.{Holds}
@@ -38,11 +39,11 @@ pub record Looping (p : Position) (s : Settings) (w v path ps : List ℕ) (x : R
 
 -- it has stopped, whichever position it was begun with
 abbrev pub Ran : (w path ps : List ℕ) (x : Running) (s : Settings) (attacker : ℕ) (v path' ps' : List ℕ) (r : Running) → Type 0
-Ran w path ps x s attacker v path' ps' r = (r.stop ≡ true) × ((g : Steppable w path ps x s attacker) → Looping g.start s w v path' ps' r)
+Ran w path ps x s attacker v path' ps' r = IsSome r.stop × ((g : Steppable w path ps x s attacker) → Looping g.start s w v path' ps' r)
 
 -- it has stopped, whichever position g holds, from its root on
 abbrev pub Started : (g : List ℕ) (s : Settings) (w v path ps : List ℕ) (r : Running) → Type 0
-Started g s w v path ps r = (r.stop ≡ true) × ((p : Position) → Holds p g 0 → Accepted p → Looping p s w v path ps r)
+Started g s w v path ps r = IsSome r.stop × ((p : Position) → Holds p g 0 → Accepted p → Looping p s w v path ps r)
 
 -- the loop, for whichever position it was begun with
 pub record Loop (w path₀ ps₀ : List ℕ) (x₀ : Running) (s : Settings) (root : ℕ) (v path ps todo : List ℕ) (x : Running) : Type 0 where
@@ -66,7 +67,7 @@ ranges_long w v s long r = record {
 
 -- the state with which the loop begins
 pub to_loop : (p : Position) (s : Settings) (w v path ps : List ℕ) (y : Prover) (root : ℕ) → Accepted p → Ranges w s → root ≡ side_bit p.side → Begun s.rule p w v path ps y
-    → (g : Steppable v path ps (record { prover = y; tick = s.interval; stop = false; cause = 0 }) s root) × (g.start ≡ p)
+    → (g : Steppable v path ps (record { prover = y; tick = s.interval; stop = None }) s root) × (g.start ≡ p)
 unfolding machine.start machine.ends
 to_loop p s w v path ps y root a r er b = (
   record {
@@ -81,8 +82,8 @@ to_loop p s w v path ps y root a r er b = (
         (omega arith, ap (λ k. machine.run (game_of s.rule p) (policy_for s p) (machine_settings v s) k (machine.start (game_of s.rule p) p)) (whole s.budget)),
         tick_start s.interval,
       );
-      ended = λ q. absurd (true≢false (sym q));
-      spent = λ q. absurd (true≢false (sym q));
+      ended = λ c q. absurd (none-some c q);
+      spent = λ q. absurd (none-some _ q);
     };
     ranges = ranges_long w v s b.long r;
     on = refl;
@@ -96,13 +97,13 @@ loop_start w path ps todo x s root room g = record { from = g; room = room; long
 
 module _ {w path₀ ps₀ : List ℕ} {x₀ : Running} {s : Settings} {root : ℕ} (v path ps todo : List ℕ) (x : Running) (l : Loop w path₀ ps₀ x₀ s root v path ps todo x) where
   -- what a step asks for, for a position the loop was begun with
-  steppable : (g : Steppable w path₀ ps₀ x₀ s root) → x.stop ≡ false → (k : Steppable v path ps x s root) × (k.start ≡ g.start)
+  steppable : (g : Steppable w path₀ ps₀ x₀ s root) → IsNone x.stop → (k : Steppable v path ps x s root) × (k.start ≡ g.start)
   steppable g on = (record { start = g.start; going = (l.each g).going; ranges = ranges_long w v s l.long g.ranges; on = on; root_is = g.root_is }, refl)
 
-  pub loop_step : x.stop ≡ false → Steppable v path ps x s root
+  pub loop_step : IsNone x.stop → Steppable v path ps x s root
   loop_step on = (steppable l.from on).0
 
-  module _ (on : x.stop ≡ false) (u path' ps' : List ℕ) (y : Running) (stepped : (k : Steppable v path ps x s root) → Stepped k.start s x v u path' ps' y) where
+  module _ (on : IsNone x.stop) (u path' ps' : List ℕ) (y : Running) (stepped : (k : Steppable v path ps x s root) → Stepped k.start s x v u path' ps' y) where
     pub loop_less : left y s < left x s
     loop_less = (stepped (loop_step on)).less
 
@@ -120,7 +121,7 @@ module _ {w path₀ ps₀ : List ℕ} {x₀ : Running} {s : Settings} {root : �
 -- from the root on, with the pool as it was lent
 pub started : (p : Position) (s : Settings) (w v u path₀ ps₀ path ps : List ℕ) (y : Prover) (x : Running) (root : ℕ)
     → Accepted p → Ranges w s → root ≡ side_bit p.side → Begun s.rule p w v path₀ ps₀ y
-    → ((g : Steppable v path₀ ps₀ (record { prover = y; tick = s.interval; stop = false; cause = 0 }) s root) → Looping g.start s v u path ps x)
+    → ((g : Steppable v path₀ ps₀ (record { prover = y; tick = s.interval; stop = None }) s root) → Looping g.start s v u path ps x)
     → Looping p s w u path ps x
 started p s w v u path₀ ps₀ path ps y x root a ranges er b each =
     let k = to_loop p s w v path₀ ps₀ y root a ranges er b in

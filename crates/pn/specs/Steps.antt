@@ -1,5 +1,5 @@
 -- What each step of a round asks for, from what stands after the one before. Rests on Rounding and the steps' contracts.
-use Rattle.std.specs.Prelude.{◌≡◌, Bool, false, List, ℕ, ◌-◌, ◌/◌, ◌≤◌, length}
+use Rattle.std.specs.Prelude.{◌≡◌, Bool, false, IsNone, List, ℕ, ◌-◌, ◌/◌, ◌≤◌, length}
 use Rattle.std.proofs.Math.Path.{ap, sym}
 use Rattle.std.proofs.Common.{◌∙◌}
 use native.Mathlib.Omega.{arith}
@@ -40,7 +40,7 @@ module _ (p : Position) (s : Settings) (w : List ℕ) where
   abbrev S : machine.Settings
   S = machine_settings w s
 
-  module _ (path ps : List ℕ) (x : Running) (g : Going p s w path ps x) (ranges : Ranges w s) (going : x.stop ≡ false)
+  module _ (path ps : List ℕ) (x : Running) (g : Going p s w path ps x) (ranges : Ranges w s) (going : IsNone x.stop)
       (unsolved : solved (machine.root g.at) ≡ false) (more : x.prover.expanded ≡ s.budget → ⊥) (w₁ path' ps' : List ℕ) (y : Prover) (long : length w₁ ≡ length w)
       (st : Stands s.rule p.side w₁ path' ps' y (machine.to_leaf G P g.at)) where
     pub same : capacity w₁ ≡ capacity w

@@ -2,7 +2,7 @@
 
 #![tactic(auto)]
 
-ghost use Rattle.std.specs.Prelude.{◌≡◌, List, true, false, cond, ◌||◌, ℕ, ◌≤◌, ◌<◌, length, eqb};
+ghost use Rattle.std.specs.Prelude.{◌≡◌, List, cond, ◌||◌, ℕ, ◌≤◌, ◌<◌, IsSome, length, eqb};
 ghost use Rattle.rules.specs.Rules.{Position};
 ghost use Rattle.rules.specs.Record.{Accepted};
 ghost use Rattle.game.specs.Lines.{line_table};
@@ -11,7 +11,7 @@ ghost use Rattle.machine.specs.Machine.{verdict_of};
 ghost use Rattle.plain.specs.Plain.{search_of};
 ghost use Rattle.prove.specs.Numbers.{verdict};
 ghost use Rattle.words.specs.Freeing.{plies};
-ghost use Rattle.pn.specs.Results.{machine_settings, result_of};
+ghost use Rattle.pn.specs.Results.{cause_number, machine_settings, result_of};
 ghost use Rattle.pn.specs.Going.{Going};
 ghost use Rattle.pn.specs.Beginning.{Startable, Begun};
 ghost use Rattle.pn.specs.Ticked.{Ticked};
@@ -35,13 +35,35 @@ pub struct Settings {
     pub stay: Stay,
 }
 
-// A search between two rounds: its state, what is left to the next interval-th expansion, and whether it has stopped, with the cause.
+// Why a search stops: its root is solved, its budget is spent, its pool is short, or it is over the limit.
+#[derive(Clone, Copy, PartialEq, Eq)]
+pub enum Cause {
+    Solved,
+    Budget,
+    Pool,
+    Limit,
+}
+
+impl Cause {
+    // Its number in a result.
+    pub fn number(self) -> u8
+        ensures { result ≡ cause_number self }
+    {
+        match self {
+            Cause::Solved => 0,
+            Cause::Budget => 1,
+            Cause::Pool => 2,
+            Cause::Limit => 3,
+        }
+    }
+}
+
+// A search between two rounds: its state, what is left to the next interval-th expansion, and why it has stopped, if it has.
 #[derive(Clone, Copy)]
 pub struct Running {
     pub prover: Prover,
     pub tick: u64,
-    pub stop: bool,
-    pub cause: u8,
+    pub stop: Option<Cause>,
 }
 
 // The nine fields.
@@ -55,7 +77,7 @@ pub struct SearchResult {
     pub proved: u64,
     pub disproved: u64,
     pub expanded: u64,
-    pub cause: u8,
+    pub cause: Cause,
 }
 
 // The root, evaluated, alone in the pool.
@@ -75,18 +97,15 @@ fn begin(
     let bounds = children::leaf_bounds(value, false);
     let packed = node_pool::pack(value, false, Move::none());
     let node = node_pool::alloc(words, NodeID(NO_NODE), 0, bounds, packed, NodeID(NO_NODE));
-    let id = node.id;
-    path[0] = id.0;
-    let head = node.head;
-    let pool = Pool {
-        head,
-        used: node.used,
-        allocated: 1,
-        freed: 0,
-    };
+    path[0] = node.id.0;
     Prover {
         depth: 0,
-        pool,
+        pool: Pool {
+            head: node.head,
+            used: node.used,
+            allocated: 1,
+            freed: 0,
+        },
         proved: 0,
         disproved: 0,
         expanded: 0,
@@ -102,73 +121,57 @@ fn tick(x: Prover, left: u64, s: Settings) -> Running
         return Running {
             prover: x,
             tick: left - 1,
-            stop: false,
-            cause: 0,
+            stop: None,
         };
     }
-    let pool = x.pool;
-    if s.limit < pool.live() {
-        return Running {
-            prover: x,
-            tick: s.interval,
-            stop: true,
-            cause: 3,
-        };
-    }
+    let over = s.limit < x.pool.live();
     Running {
         prover: x,
         tick: s.interval,
-        stop: false,
-        cause: 0,
+        stop: over.then_some(Cause::Limit),
     }
 }
 
 // Proof 0 is True, disproof 0 False, else Unknown.
+#[tactic(auto, unfolding(machine::specs::Machine::verdict_of))]
 fn verdict_of(proof: u32, disproof: u32) -> Evaluation
     ensures { verdict result ≡ verdict_of proof disproof }
 {
-    if proof == 0 {
-        return Evaluation::True;
+    match (proof, disproof) {
+        (0, _) => Evaluation::True,
+        (_, 0) => Evaluation::False,
+        _ => Evaluation::Unknown,
     }
-    if disproof == 0 {
-        return Evaluation::False;
-    }
-    Evaluation::Unknown
 }
 
-// Cause is 0 if the root is solved.
-fn cause_of(proof: u32, disproof: u32, cause: u8) -> u8
-    ensures { result ≡ cond (eqb proof 0 || eqb disproof 0) 0 cause }
+// A root that is solved is the cause, whatever stopped the search.
+fn cause_of(proof: u32, disproof: u32, cause: Cause) -> Cause
+    ensures { cause_number result ≡ cond (eqb proof 0 || eqb disproof 0) 0 (cause_number cause) }
 {
-    if proof == 0 {
-        return 0;
+    match (proof, disproof) {
+        (0, _) | (_, 0) => Cause::Solved,
+        _ => cause,
     }
-    if disproof == 0 {
-        return 0;
-    }
-    cause
 }
 
 // The result of a search that has stopped.
 pub fn finish(words: &[u32], path: &[u32; PLIES], s: Settings, x: Running) -> SearchResult
-    requires { (length path.now ≡ 82) × ((p : Position) × (ps : List ℕ) × Going p s words.now path.now ps x) × (x.stop ≡ true) }
+    requires { (length path.now ≡ 82) × ((p : Position) × (ps : List ℕ) × Going p s words.now path.now ps x) × IsSome x.stop }
     ensures { (p : Position) (ps : List ℕ) → Going p s words.now path.now ps x → result_of result ≡ search_of s.rule (machine_settings words.now s) p }
 {
-    let root = path[0];
-    let proof = node_pool::phi(words, NodeID(root));
-    let disproof = node_pool::delta(words, NodeID(root));
-    let prover = x.prover;
-    let pool = prover.pool;
+    let root = NodeID(path[0]);
+    let proof = node_pool::phi(words, root);
+    let disproof = node_pool::delta(words, root);
     SearchResult {
         verdict: verdict_of(proof, disproof),
         proof,
         disproof,
-        allocated: pool.allocated,
-        freed: pool.freed,
-        proved: prover.proved,
-        disproved: prover.disproved,
-        expanded: prover.expanded,
-        cause: cause_of(proof, disproof, x.cause),
+        allocated: x.prover.pool.allocated,
+        freed: x.prover.pool.freed,
+        proved: x.prover.proved,
+        disproved: x.prover.disproved,
+        expanded: x.prover.expanded,
+        cause: cause_of(proof, disproof, x.stop.unwrap()),
     }
 }
 
@@ -188,14 +191,12 @@ fn round(
     ensures room { length todo.new ≡ plies }
     ensures stepped { (u : Unsolved words.old path.old positions.old x s attacker) → Stepped u.from.start s x words.old words.new path.new positions.new result }
 {
-    let stay = s.stay;
-    let leaf = descend::descend(table, words, path, positions, x.prover, stay);
+    let leaf = descend::descend(table, words, path, positions, x.prover, s.stay);
     if room::is_short(table, words, positions, leaf, s.rule, attacker) {
         return Running {
             prover: leaf,
             tick: 0,
-            stop: true,
-            cause: 2,
+            stop: Some(Cause::Pool),
         };
     }
     let e = expand::expand(table, words, path, positions, leaf, s.rule, attacker);
@@ -219,25 +220,19 @@ fn step(
     ensures room { length todo.new ≡ plies }
     ensures stepped { (g : Steppable words.old path.old positions.old x s attacker) → Stepped g.start s x words.old words.new path.new positions.new result }
 {
-    let id = path[0];
-    let phi = node_pool::phi(words, NodeID(id));
-    let delta = node_pool::delta(words, NodeID(id));
-    let bounds = Bounds { phi, delta };
-    let prover = x.prover;
-    if bounds.solved() {
+    let root = NodeID(path[0]);
+    let phi = node_pool::phi(words, root);
+    let delta = node_pool::delta(words, root);
+    if (Bounds { phi, delta }).solved() {
         return Running {
-            prover,
-            tick: 0,
-            stop: true,
-            cause: 0,
+            stop: Some(Cause::Solved),
+            ..x
         };
     }
-    if prover.expanded == s.budget {
+    if x.prover.expanded == s.budget {
         return Running {
-            prover,
-            tick: x.tick,
-            stop: true,
-            cause: 1,
+            stop: Some(Cause::Budget),
+            ..x
         };
     }
     round(table, words, path, positions, todo, x, s, attacker)
@@ -260,7 +255,7 @@ pub fn run(
     let mut todo: [u32; PLIES] = [0; PLIES];
     let mut line = *path;
     let mut y = x;
-    while !y.stop {
+    while y.stop.is_none() {
         y = step(
             &table, words, &mut line, positions, &mut todo, y, s, attacker,
         );
@@ -281,14 +276,11 @@ pub fn start(
     ensures { Started g.words s words.old words.new path.new positions.new result }
 {
     let table = game::line_table();
-    let root_words = g.words;
-    let attacker = game::side_to_move(&root_words, 0);
-    let first = begin(&table, words, path, positions, g, s.rule);
+    let attacker = game::side_to_move(&g.words, 0);
     let x = Running {
-        prover: first,
+        prover: begin(&table, words, path, positions, g, s.rule),
         tick: s.interval,
-        stop: false,
-        cause: 0,
+        stop: None,
     };
     run(words, path, positions, x, s, attacker)
 }

@@ -10,6 +10,6 @@ pub delta-disproof-requires : goal.delta-disproof-requires
 delta-disproof-requires c = (going_root _ _ _ _ _ _ c.requires.1.2).slot
 
 pub returns : goal.returns
-returns c p ps g = going_result _ _ _ _ _ _ g c.requires.2
-    (record { verdict = c.verdict_of.result; proof = _; disproof = _; allocated = _; freed = _; proved = _; disproved = _; expanded = _; cause = _ })
+returns c p ps g = going_result _ _ _ _ _ _ g c.unwrap.result c.unwrap.ensures
+    (record { verdict = c.verdict_of.result; proof = _; disproof = _; allocated = _; freed = _; proved = _; disproved = _; expanded = _; cause = c.cause_of.result })
     c.phi-proof.ensures c.delta-disproof.ensures c.verdict_of.ensures refl refl refl refl refl c.cause_of.ensures

@@ -27,7 +27,7 @@ returns-then-is_short c = record {
       let leaf = to_room _ _ _ _ _ _ u.from.going u.from.ranges u.from.on u.unsolved u.more _ _ _ _ at.long at.stands _ u.from.root_is in
       let test = c.is_short.ensures _ leaf in
       let short = short_is _ _ _ _ _ _ u.from.going u.from.ranges u.from.on u.unsolved u.more _ _ _ _ at.long at.stands _ test ∙ c.if-is_short.true in
-      stepped_short u _ _ _ _ at.long at.past at.stands short refl refl;
+      stepped_short u _ _ _ _ at.long at.past at.stands short refl;
 }
 
 pub expand-e-requires : goal.expand-e-requires

@@ -3,8 +3,8 @@ use Rattle.pn.specs.Stepping.{left}
 use Rattle.pn.specs.Searches.{Loop}
 use Rattle.pn.proofs.run.Given as goal
 
-abbrev pub invariant-loop-y : goal.invariant-loop-y
-invariant-loop-y l = Loop l.initial.words l.initial.line l.initial.positions l.initial.y l.s l.attacker l.words l.line l.positions l.todo l.y
+abbrev pub invariant-loop-s : goal.invariant-loop-s
+invariant-loop-s l = Loop l.initial.words l.initial.line l.initial.positions l.initial.y l.s l.attacker l.words l.line l.positions l.todo l.y
 
-abbrev pub decreases-loop-y : goal.decreases-loop-y
-decreases-loop-y l = left l.y l.s
+abbrev pub decreases-loop-s : goal.decreases-loop-s
+decreases-loop-s l = left l.y l.s
