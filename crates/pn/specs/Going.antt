@@ -64,7 +64,7 @@ pub record Going (p : Position) (s : Settings) (w path ps : List ℕ) (x : Runni
       → Spent (game_of s.rule p) (policy_for s p) (machine_settings w s) p at × Ticks s.interval at.counts.expanded x.tick
 
 -- the cause that a stopped search has; 1 is the budget's number alone
-stopped_by : (o : Option Cause) → IsSome o → (c : Cause) × (o ≡ Some c)
+pub stopped_by : (o : Option Cause) → IsSome o → (c : Cause) × (o ≡ Some c)
 stopped_by None e = absurd (true≢false (sym e))
 stopped_by (Some c) e = (c, refl)
 

@@ -1,5 +1,5 @@
 -- A search that is kept between the passes: it has stopped in the words of its pool, and goes on from there. Rests on pn's Going and Searches.
-use Rattle.std.specs.Prelude.{◌≡◌, refl, true, List, ℕ, ◌≤◌}
+use Rattle.std.specs.Prelude.{◌≡◌, refl, Some, IsSome, List, ℕ, ◌≤◌}
 use Rattle.std.proofs.Common.{subst}
 use Rattle.rules.specs.Rules.{Position}
 use Rattle.rules.specs.Record.{side_bit}
@@ -8,12 +8,13 @@ use Rattle.pn.specs.Stepping.{Steppable}
 use Rattle.pn.specs.Searches.{Looping}
 use Rattle.pn.specs.declared.Settings.{Settings}
 use Rattle.pn.specs.declared.Running.{Running}
+use Rattle.pn.specs.declared.Cause.TheVariants.{Budget}
 use Rattle.resume.specs.declared.Kept.{Kept}
 
 -- the search of p has stopped in the words v
 pub record Stopped (p : Position) (s : Settings) (v : List ℕ) (k : Kept) : Type 0 where
   pub going : Going p s v k.path k.positions k.running
-  pub stop : k.running.stop ≡ true
+  pub stop : IsSome k.running.stop
   pub root_is : k.attacker ≡ side_bit p.side
 
 -- its budget stopped it, and s has the same settings with no less budget
@@ -21,7 +22,7 @@ pub record Resumable (w : List ℕ) (k : Kept) (s : Settings) : Type 0 where
   pub start : Position
   pub budget : ℕ
   pub stopped : Stopped start (with_budget s budget) w k
-  pub spent : k.running.cause ≡ 1
+  pub spent : k.running.stop ≡ Some Budget
   pub more : budget ≤ s.budget
   pub ranges : Ranges w s
 
@@ -31,7 +32,7 @@ module _ {w : List ℕ} {k : Kept} {s : Settings} (g : Resumable w k s) where
   to_resume = (
     record {
       start = g.start;
-      going = goes_again g.start (with_budget s g.budget) w k.path k.positions k.running g.stopped.going g.stopped.stop g.spent s.budget g.more;
+      going = goes_again g.start (with_budget s g.budget) w k.path k.positions k.running g.stopped.going g.spent s.budget g.more;
       ranges = g.ranges;
       on = refl;
       root_is = g.stopped.root_is;
@@ -40,7 +41,7 @@ module _ {w : List ℕ} {k : Kept} {s : Settings} (g : Resumable w k s) where
   )
 
   -- what it comes to
-  pub resumed : (u path ps : List ℕ) (r : Running) → r.stop ≡ true
+  pub resumed : (u path ps : List ℕ) (r : Running) → IsSome r.stop
       → ((h : Steppable w k.path k.positions (again k.running) s k.attacker) → Looping h.start s w u path ps r)
       → Stopped g.start s u (record { running = r; path = path; positions = ps; attacker = k.attacker })
   resumed u path ps r stop each =

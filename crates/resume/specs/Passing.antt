@@ -1,5 +1,5 @@
 -- The second pass of a game, as the code goes through it: the grant's result, and what is unspent after it. Rests on Keeping, Lone and the passes' definitions.
-use Rattle.std.specs.Prelude.{◌≡◌, Bool, true, false, cond, List, ℕ, ◌+◌, ◌-◌, ◌≤◌, eqb, length}
+use Rattle.std.specs.Prelude.{◌≡◌, Bool, true, false, Some, cond, List, ℕ, ◌+◌, ◌-◌, ◌≤◌, eqb, length}
 use Rattle.std.proofs.Math.Path.{ap, sym}
 use Rattle.std.proofs.Common.{◌∙◌, arith, eq-eqb, ne_eqb}
 use Rattle.rules.specs.Rules.{Position}
@@ -9,9 +9,11 @@ use Rattle.stay.specs.Margin.{stay_of}
 use Rattle.words.specs.Words.{capacity}
 use Rattle.passes.specs.Passes.{OneGame, first, grant_with, unspent_after}
 use Rattle.pn.specs.Results.{machine_settings, result_of}
-use Rattle.pn.specs.Going.{Countable, Ranges, with_budget, cause_spent, spent_cause, settings_long}
+use Rattle.pn.specs.Going.{Countable, Ranges, stopped_by, with_budget, cause_spent, spent_cause, settings_long}
 use Rattle.pn.specs.declared.Settings.{Settings}
 use Rattle.pn.specs.declared.SearchResult.{SearchResult}
+use Rattle.pn.specs.declared.Cause.{Cause}
+use Rattle.pn.specs.declared.Cause.TheVariants.{Budget}
 use Rattle.resume.specs.Lone.{lone, lone_spent}
 use Rattle.resume.specs.Keeping.{Stopped, Resumable}
 use Rattle.resume.specs.declared.Kept.{Kept}
@@ -48,27 +50,29 @@ module _ {p : Position} {s : Settings} {w : List ℕ} {k : Kept} (h : Stopped p 
   -- what it expanded in the first pass
   pub first_expanded : (first g).expanded ≡ k.running.prover.expanded
   unfolding search_of machine.search machine.result
-  first_expanded = ap (λ (r : machine.Result). r.expanded) (h.going.ended h.stop) ∙ sym h.going.stands.expanded_is
+  first_expanded =
+      let by = stopped_by k.running.stop h.stop in
+      ap (λ (r : machine.Result). r.expanded) (h.going.ended by.0 by.1) ∙ sym h.going.stands.expanded_is
 
   granted : (b : Bool) → eqb (first g).cause 1 ≡ b → grant_with g u ≡ cond b (s.budget + u) s.budget
   granted b e = ap (λ c. cond c (s.budget + u) s.budget) e
 
   -- not stopped by its budget, it keeps its first result
-  pub passes_kept : (k.running.cause ≡ 1 → ⊥) → (r : SearchResult) → result_of r ≡ search_of s.rule (machine_settings w s) p → Passes p s w u (record { result = r; unspent = u })
+  pub passes_kept : (k.running.stop ≡ Some Budget → ⊥) → (r : SearchResult) → result_of r ≡ search_of s.rule (machine_settings w s) p → Passes p s w u (record { result = r; unspent = u })
   passes_kept n r e =
       let q = granted false (ne_eqb _ 1 (λ c. n (cause_spent p s w k.path k.positions k.running h.going h.stop c))) in
       let same : result_of r ≡ g.search (grant_with g u) = e ∙ ap g.search (sym q) in
       record { result_is = same; unspent_is = omega (arith, ap (λ (x : machine.Result). x.expanded) e, ap (λ (x : machine.Result). x.expanded) same) }
 
-  module _ (c : k.running.cause ≡ 1) where
+  module _ (c : k.running.stop ≡ Some Budget) where
     pub spent_all : k.running.prover.expanded ≡ s.budget
-    spent_all = h.going.stands.expanded_is ∙ (h.going.spent h.stop c).0.all
+    spent_all = h.going.stands.expanded_is ∙ (h.going.spent c).0.all
 
     -- stopped by its budget, it was granted all that was unspent
     pub passes_on : (r : SearchResult) → result_of r ≡ search_of s.rule (machine_settings w (with_budget s (s.budget + u))) p
         → Passes p s w u (record { result = r; unspent = s.budget + u - r.expanded })
     passes_on r e =
-        let q = granted true (eq-eqb _ 1 (spent_cause p s w k.path k.positions k.running h.going h.stop c)) in
+        let q = granted true (eq-eqb _ 1 (spent_cause p s w k.path k.positions k.running h.going c)) in
         let same : result_of r ≡ g.search (grant_with g u) = e ∙ ap g.search (sym q) in
         record { result_is = same; unspent_is = omega (arith, first_expanded, spent_all, ap (λ (x : machine.Result). x.expanded) same) }
 

@@ -11,7 +11,7 @@ ghost use Rattle.resume.specs.Passing.{Passable, Passes};
 
 use game::Game;
 use node_pool::{NO_NODE, NodeID, PLIES, Pool};
-use pn::{Running, SearchResult, Settings};
+use pn::{Cause, Running, SearchResult, Settings};
 use positions::POSITIONS;
 use prover::Prover;
 
@@ -26,8 +26,6 @@ pub struct Kept {
 
 // What stands where no search is kept.
 pub fn nothing() -> Kept {
-    let path: [u32; PLIES] = [0; PLIES];
-    let positions: [u16; POSITIONS] = [0; POSITIONS];
     let pool = Pool {
         head: NodeID(NO_NODE),
         used: 0,
@@ -41,16 +39,14 @@ pub fn nothing() -> Kept {
         disproved: 0,
         expanded: 0,
     };
-    let running = Running {
-        prover,
-        tick: 0,
-        stop: true,
-        cause: 0,
-    };
     Kept {
-        running,
-        path,
-        positions,
+        running: Running {
+            prover,
+            tick: 0,
+            stop: Some(Cause::Solved),
+        },
+        path: [0; PLIES],
+        positions: [0; POSITIONS],
         attacker: 0,
     }
 }
@@ -60,10 +56,9 @@ pub fn first(words: &mut [u32], g: Game, s: Settings) -> Kept
     requires { Searchable g.words words.old s }
     ensures { (p : Position) → Holds p g.words 0 → Accepted p → Stopped p s words.new result }
 {
-    let mut path: [u32; PLIES] = [0; PLIES];
-    let mut positions: [u16; POSITIONS] = [0; POSITIONS];
-    let root_words = g.words;
-    let attacker = game::side_to_move(&root_words, 0);
+    let mut path = [0; PLIES];
+    let mut positions = [0; POSITIONS];
+    let attacker = game::side_to_move(&g.words, 0);
     let running = pn::start(words, &mut path, &mut positions, g, s);
     Kept {
         running,
@@ -74,28 +69,16 @@ pub fn first(words: &mut [u32], g: Game, s: Settings) -> Kept
 }
 
 // A search that its budget stopped goes on, with more.
-fn go_on(words: &mut [u32], k: Kept, s: Settings) -> Kept
+fn go_on(words: &mut [u32], mut k: Kept, s: Settings) -> Kept
     requires { Resumable words.old k s }
     ensures { (g : Resumable words.old k s) → Stopped g.start s words.new result }
 {
-    let mut path = k.path;
-    let mut positions = k.positions;
-    let before = k.running;
-    let attacker = k.attacker;
-    let prover = before.prover;
     let x = Running {
-        prover,
-        tick: before.tick,
-        stop: false,
-        cause: 0,
+        stop: None,
+        ..k.running
     };
-    let running = pn::run(words, &mut path, &mut positions, x, s, attacker);
-    Kept {
-        running,
-        path,
-        positions,
-        attacker,
-    }
+    k.running = pn::run(words, &mut k.path, &mut k.positions, x, s, k.attacker);
+    k
 }
 
 // A game's result, and what is unspent after its turn.
@@ -110,29 +93,20 @@ pub fn second(words: &mut [u32], k: Kept, s: Settings, unspent: u64) -> Turn
     requires { Passable words.old k s unspent }
     ensures { (p : Position) → Stopped p s words.old k → Passes p s words.old unspent result }
 {
-    let x = k.running;
-    if x.cause != 1 {
-        let path = k.path;
+    if k.running.stop != Some(Cause::Budget) {
         return Turn {
-            result: pn::finish(words, &path, s, x),
+            result: pn::finish(words, &k.path, s, k.running),
             unspent,
         };
     }
-    let grant = s.budget + unspent;
-    let stay = s.stay;
     let more = Settings {
-        rule: s.rule,
-        limit: s.limit,
-        budget: grant,
-        interval: s.interval,
-        stay,
+        budget: s.budget + unspent,
+        ..s
     };
     let last = go_on(words, k, more);
-    let path = last.path;
-    let y = last.running;
-    let result = pn::finish(words, &path, more, y);
+    let result = pn::finish(words, &last.path, more, last.running);
     Turn {
         result,
-        unspent: grant - result.expanded,
+        unspent: more.budget - result.expanded,
     }
 }

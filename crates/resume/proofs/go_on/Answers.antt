@@ -2,8 +2,8 @@
 use Rattle.resume.specs.Keeping.{to_resume, resumed}
 use Rattle.resume.proofs.go_on.Goals as goal
 
-pub run-running-requires : goal.run-running-requires
-run-running-requires c = (to_resume c.requires).0
+pub run-k-requires : goal.run-k-requires
+run-k-requires c = (to_resume c.requires).0
 
 pub returns : goal.returns
-returns c g = resumed g _ _ _ _ c.run-running.ensures.0 c.run-running.ensures.1
+returns c g = resumed g _ _ _ _ c.run-k.ensures.0 c.run-k.ensures.1
