@@ -11,7 +11,6 @@ use Rattle.plain.specs.Plain.{game_of, search_of}
 use Rattle.plain.proofs.Laws.{lawful, left_most}
 use Rattle.words.specs.Words.{capacity, Beyond}
 use Rattle.words.proofs.Words.{beyond_trans}
-use Rattle.words.specs.Freeing.{plies}
 use Rattle.prover.specs.declared.Prover.{Prover}
 use Rattle.pn.specs.Ticks.{tick_start}
 use Rattle.pn.specs.Results.{machine_settings, result_of}
@@ -46,9 +45,8 @@ abbrev pub Started : (g : List ℕ) (s : Settings) (w v path ps : List ℕ) (r :
 Started g s w v path ps r = IsSome r.stop × ((p : Position) → Holds p g 0 → Accepted p → Looping p s w v path ps r)
 
 -- the loop, for whichever position it was begun with
-pub record Loop (w path₀ ps₀ : List ℕ) (x₀ : Running) (s : Settings) (root : ℕ) (v path ps todo : List ℕ) (x : Running) : Type 0 where
+pub record Loop (w path₀ ps₀ : List ℕ) (x₀ : Running) (s : Settings) (root : ℕ) (v path ps : List ℕ) (x : Running) : Type 0 where
   pub from : Steppable w path₀ ps₀ x₀ s root
-  pub room : length todo ≡ plies
   pub long : length v ≡ length w
   pub each : (g : Steppable w path₀ ps₀ x₀ s root) → Looping g.start s w v path ps x
 
@@ -92,10 +90,10 @@ to_loop p s w v path ps y root a r er b = (
   refl,
 )
 
-pub loop_start : (w path ps todo : List ℕ) (x : Running) (s : Settings) (root : ℕ) → length todo ≡ plies → Steppable w path ps x s root → Loop w path ps x s root w path ps todo x
-loop_start w path ps todo x s root room g = record { from = g; room = room; long = refl; each = λ k. record { going = k.going; past = λ j l. refl } }
+pub loop_start : (w path ps : List ℕ) (x : Running) (s : Settings) (root : ℕ) → Steppable w path ps x s root → Loop w path ps x s root w path ps x
+loop_start w path ps x s root g = record { from = g; long = refl; each = λ k. record { going = k.going; past = λ j l. refl } }
 
-module _ {w path₀ ps₀ : List ℕ} {x₀ : Running} {s : Settings} {root : ℕ} (v path ps todo : List ℕ) (x : Running) (l : Loop w path₀ ps₀ x₀ s root v path ps todo x) where
+module _ {w path₀ ps₀ : List ℕ} {x₀ : Running} {s : Settings} {root : ℕ} (v path ps : List ℕ) (x : Running) (l : Loop w path₀ ps₀ x₀ s root v path ps x) where
   -- what a step asks for, for a position the loop was begun with
   steppable : (g : Steppable w path₀ ps₀ x₀ s root) → IsNone x.stop → (k : Steppable v path ps x s root) × (k.start ≡ g.start)
   steppable g on = (record { start = g.start; going = (l.each g).going; ranges = ranges_long w v s l.long g.ranges; on = on; root_is = g.root_is }, refl)
@@ -107,10 +105,9 @@ module _ {w path₀ ps₀ : List ℕ} {x₀ : Running} {s : Settings} {root : �
     pub loop_less : left y s < left x s
     loop_less = (stepped (loop_step on)).less
 
-    pub loop_next : (todo' : List ℕ) → length u ≡ length v → length todo' ≡ plies → Loop w path₀ ps₀ x₀ s root u path' ps' todo' y
-    loop_next todo' long room = record {
+    pub loop_next : length u ≡ length v → Loop w path₀ ps₀ x₀ s root u path' ps' y
+    loop_next long = record {
       from = l.from;
-      room = room;
       long = long ∙ l.long;
       each = λ g.
           let k = steppable g on in

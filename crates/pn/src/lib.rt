@@ -2,15 +2,13 @@
 
 #![tactic(auto)]
 
-ghost use Rattle.std.specs.Prelude.{◌≡◌, List, cond, ◌||◌, ℕ, ◌≤◌, ◌<◌, IsSome, length, eqb};
+ghost use Rattle.std.specs.Prelude.{◌≡◌, List, cond, ◌||◌, ℕ, ◌≤◌, ◌<◌, IsSome, eqb};
 ghost use Rattle.rules.specs.Rules.{Position};
 ghost use Rattle.rules.specs.Record.{Accepted};
-ghost use Rattle.game.specs.Lines.{line_table};
 ghost use Rattle.game.specs.Words.{Holds};
 ghost use Rattle.machine.specs.Machine.{verdict_of};
 ghost use Rattle.plain.specs.Plain.{search_of};
 ghost use Rattle.prove.specs.Numbers.{verdict};
-ghost use Rattle.words.specs.Freeing.{plies};
 ghost use Rattle.pn.specs.Results.{cause_number, machine_settings, result_of};
 ghost use Rattle.pn.specs.Going.{Going};
 ghost use Rattle.pn.specs.Beginning.{Startable, Begun};
@@ -82,18 +80,17 @@ pub struct SearchResult {
 
 // The root, evaluated, alone in the pool.
 fn begin(
-    table: &[u8; 512],
     words: &mut [u32],
     path: &mut [u32; PLIES],
     positions: &mut [u16; POSITIONS],
     g: Game,
     rule: u64,
 ) -> Prover
-    requires { (table.now ≡ line_table) × (length path.old ≡ 82) × (length positions.old ≡ 1968) × Startable g.words words.old }
+    requires { Startable g.words words.old }
     ensures { (p : Position) → Holds p g.words 0 → Accepted p → Begun rule p words.old words.new path.new positions.new result }
 {
     positions::start(positions, g);
-    let value = children::root_value(table, positions, 0, rule);
+    let value = children::root_value(positions, 0, rule);
     let bounds = children::leaf_bounds(value, false);
     let packed = node_pool::pack(value, false, Move::none());
     let node = node_pool::alloc(words, NodeID(NO_NODE), 0, bounds, packed, NodeID(NO_NODE));
@@ -156,7 +153,7 @@ fn cause_of(proof: u32, disproof: u32, cause: Cause) -> Cause
 
 // The result of a search that has stopped.
 pub fn finish(words: &[u32], path: &[u32; PLIES], s: Settings, x: Running) -> SearchResult
-    requires { (length path.now ≡ 82) × ((p : Position) × (ps : List ℕ) × Going p s words.now path.now ps x) × IsSome x.stop }
+    requires { ((p : Position) × (ps : List ℕ) × Going p s words.now path.now ps x) × IsSome x.stop }
     ensures { (p : Position) (ps : List ℕ) → Going p s words.now path.now ps x → result_of result ≡ search_of s.rule (machine_settings words.now s) p }
 {
     let root = NodeID(path[0]);
@@ -176,8 +173,8 @@ pub fn finish(words: &[u32], path: &[u32; PLIES], s: Settings, x: Running) -> Se
 }
 
 // Steps 2 to 6: down to a leaf; if it is short of nodes the search stops; expand, climb, count.
+// What is lent stays apart, here and in `step`: each step takes other parts of it, so that a struct of the four would be taken apart at every call.
 fn round(
-    table: &[u8; 512],
     words: &mut [u32],
     path: &mut [u32; PLIES],
     positions: &mut [u16; POSITIONS],
@@ -186,27 +183,24 @@ fn round(
     s: Settings,
     attacker: usize,
 ) -> Running
-    requires room { length todo.old ≡ plies }
-    requires table_value { (table.now ≡ line_table) × Unsolved words.old path.old positions.old x s attacker }
-    ensures room { length todo.new ≡ plies }
-    ensures stepped { (u : Unsolved words.old path.old positions.old x s attacker) → Stepped u.from.start s x words.old words.new path.new positions.new result }
+    requires { Unsolved words.old path.old positions.old x s attacker }
+    ensures { (u : Unsolved words.old path.old positions.old x s attacker) → Stepped u.from.start s x words.old words.new path.new positions.new result }
 {
-    let leaf = descend::descend(table, words, path, positions, x.prover, s.stay);
-    if room::is_short(table, words, positions, leaf, s.rule, attacker) {
+    let leaf = descend::descend(words, path, positions, x.prover, s.stay);
+    if room::is_short(words, positions, leaf, s.rule, attacker) {
         return Running {
             prover: leaf,
-            tick: 0,
             stop: Some(Cause::Pool),
+            ..x
         };
     }
-    let e = expand::expand(table, words, path, positions, leaf, s.rule, attacker);
+    let e = expand::expand(words, path, positions, leaf, s.rule, attacker);
     let next = climb::climb(words, path, todo, e.prover, e.phi, e.delta);
     tick(next, x.tick, s)
 }
 
 // One step of a search: it ends if the root is solved, then if the budget is spent, or goes through a round.
 fn step(
-    table: &[u8; 512],
     words: &mut [u32],
     path: &mut [u32; PLIES],
     positions: &mut [u16; POSITIONS],
@@ -215,10 +209,8 @@ fn step(
     s: Settings,
     attacker: usize,
 ) -> Running
-    requires room { length todo.old ≡ plies }
-    requires table_value { (table.now ≡ line_table) × Steppable words.old path.old positions.old x s attacker }
-    ensures room { length todo.new ≡ plies }
-    ensures stepped { (g : Steppable words.old path.old positions.old x s attacker) → Stepped g.start s x words.old words.new path.new positions.new result }
+    requires { Steppable words.old path.old positions.old x s attacker }
+    ensures { (g : Steppable words.old path.old positions.old x s attacker) → Stepped g.start s x words.old words.new path.new positions.new result }
 {
     let root = NodeID(path[0]);
     let phi = node_pool::phi(words, root);
@@ -235,7 +227,7 @@ fn step(
             ..x
         };
     }
-    round(table, words, path, positions, todo, x, s, attacker)
+    round(words, path, positions, todo, x, s, attacker)
 }
 
 // A search that goes on, until it stops. Path and positions are lent, so that it can be taken up again. While it runs the path is an array of its own, which the
@@ -244,24 +236,20 @@ pub fn run(
     words: &mut [u32],
     path: &mut [u32; PLIES],
     positions: &mut [u16; POSITIONS],
-    x: Running,
+    mut x: Running,
     s: Settings,
     attacker: usize,
 ) -> Running
     requires { Steppable words.old path.old positions.old x s attacker }
     ensures { Ran words.old path.old positions.old x s attacker words.new path.new positions.new result }
 {
-    let table = game::line_table();
-    let mut todo: [u32; PLIES] = [0; PLIES];
+    let mut todo = [0; PLIES];
     let mut line = *path;
-    let mut y = x;
-    while y.stop.is_none() {
-        y = step(
-            &table, words, &mut line, positions, &mut todo, y, s, attacker,
-        );
+    while x.stop.is_none() {
+        x = step(words, &mut line, positions, &mut todo, x, s, attacker);
     }
     *path = line;
-    y
+    x
 }
 
 // The search of an accepted position from its root on, until it stops, in a pool of any words.
@@ -272,13 +260,12 @@ pub fn start(
     g: Game,
     s: Settings,
 ) -> Running
-    requires { (length path.old ≡ 82) × (length positions.old ≡ 1968) × Searchable g.words words.old s }
+    requires { Searchable g.words words.old s }
     ensures { Started g.words s words.old words.new path.new positions.new result }
 {
-    let table = game::line_table();
     let attacker = game::side_to_move(&g.words, 0);
     let x = Running {
-        prover: begin(&table, words, path, positions, g, s.rule),
+        prover: begin(words, path, positions, g, s.rule),
         tick: s.interval,
         stop: None,
     };
@@ -290,8 +277,8 @@ pub fn search(words: &mut [u32], g: Game, s: Settings) -> SearchResult
     requires { Searchable g.words words.old s }
     ensures { (p : Position) → Holds p g.words 0 → Accepted p → Searched p s words.old words.new result }
 {
-    let mut path: [u32; PLIES] = [0; PLIES];
-    let mut positions: [u16; POSITIONS] = [0; POSITIONS];
+    let mut path = [0; PLIES];
+    let mut positions = [0; POSITIONS];
     let last = start(words, &mut path, &mut positions, g, s);
     finish(words, &path, s, last)
 }

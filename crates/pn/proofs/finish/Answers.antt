@@ -4,10 +4,10 @@ use Rattle.pn.specs.Going.{going_root, going_result}
 use Rattle.pn.proofs.finish.Goals as goal
 
 pub phi-proof-requires : goal.phi-proof-requires
-phi-proof-requires c = (going_root _ _ _ _ _ _ c.requires.1.2).slot
+phi-proof-requires c = (going_root _ _ _ _ _ _ c.requires.0.2).slot
 
 pub delta-disproof-requires : goal.delta-disproof-requires
-delta-disproof-requires c = (going_root _ _ _ _ _ _ c.requires.1.2).slot
+delta-disproof-requires c = (going_root _ _ _ _ _ _ c.requires.0.2).slot
 
 pub returns : goal.returns
 returns c p ps g = going_result _ _ _ _ _ _ g c.unwrap.result c.unwrap.ensures

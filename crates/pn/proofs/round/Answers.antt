@@ -6,46 +6,40 @@ use Rattle.pn.proofs.round.Goals as goal
 
 pub descend-leaf-requires : goal.descend-leaf-requires
 descend-leaf-requires c =
-    let u = c.requires.table_value.1 in
-    (c.requires.table_value.0, searched u, u.from.ranges.stay_is_in_range)
+    let u = c.requires in
+    (searched u, u.from.ranges.stay_is_in_range)
 
 pub is_short-requires : goal.is_short-requires
 is_short-requires c =
-    let u = c.requires.table_value.1 in
-    (c.requires.table_value.0, (_, roomy u (at_leaf u c.descend-leaf.ensures)))
+    let u = c.requires in
+    (_, roomy u (at_leaf u c.descend-leaf.ensures))
 
 pub returns-then-is_short : goal.returns-then-is_short
-returns-then-is_short c = record {
-  room = c.requires.room;
-  stepped = λ u.
-      let at = at_leaf u c.descend-leaf.ensures in
-      stepped_short u _ _ _ _ at.long at.past at.stands (short u at c.is_short.ensures c.if-is_short.true) refl;
-}
+returns-then-is_short c u =
+    let at = at_leaf u c.descend-leaf.ensures in
+    stepped_short u _ _ _ _ at.long at.past at.stands (short u at c.is_short.ensures c.if-is_short.true) refl
 
 pub expand-e-requires : goal.expand-e-requires
 expand-e-requires c =
-    let u = c.requires.table_value.1 in
+    let u = c.requires in
     let at = at_leaf u c.descend-leaf.ensures in
-    (c.requires.table_value.0, expandable u at (short u at c.is_short.ensures c.if-is_short.false))
+    expandable u at (short u at c.is_short.ensures c.if-is_short.false)
 
 pub climb-next-requires : goal.climb-next-requires
 climb-next-requires c =
-    let u = c.requires.table_value.1 in
+    let u = c.requires in
     let at = at_leaf u c.descend-leaf.ensures in
-    record { room = c.requires.room; climbable = climbable u at (short u at c.is_short.ensures c.if-is_short.false) c.expand-e.auto.words c.expand-e.ensures }
+    record { room = c.told-todo; climbable = climbable u at (short u at c.is_short.ensures c.if-is_short.false) c.expand-e.auto.words c.expand-e.ensures }
 
 pub tick-requires : goal.tick-requires
 tick-requires c =
-    let u = c.requires.table_value.1 in
+    let u = c.requires in
     let at = at_leaf u c.descend-leaf.ensures in
     let enough = short u at c.is_short.ensures c.if-is_short.false in
     counter u at enough (climbed u at enough c.expand-e.auto.words c.expand-e.ensures c.climb-next.auto.words c.climb-next.ensures.climbs)
 
 pub returns : goal.returns
-returns c = record {
-  room = c.climb-next.ensures.room;
-  stepped = λ u.
-      let at = at_leaf u c.descend-leaf.ensures in
-      let enough = short u at c.is_short.ensures c.if-is_short.false in
-      counted u at enough (climbed u at enough c.expand-e.auto.words c.expand-e.ensures c.climb-next.auto.words c.climb-next.ensures.climbs) c.tick.ensures;
-}
+returns c u =
+    let at = at_leaf u c.descend-leaf.ensures in
+    let enough = short u at c.is_short.ensures c.if-is_short.false in
+    counted u at enough (climbed u at enough c.expand-e.auto.words c.expand-e.ensures c.climb-next.auto.words c.climb-next.ensures.climbs) c.tick.ensures

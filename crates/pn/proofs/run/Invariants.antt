@@ -4,7 +4,7 @@ use Rattle.pn.specs.Searches.{Loop}
 use Rattle.pn.proofs.run.Given as goal
 
 abbrev pub invariant-loop-s : goal.invariant-loop-s
-invariant-loop-s l = Loop l.initial.words l.initial.line l.initial.positions l.initial.y l.s l.attacker l.words l.line l.positions l.todo l.y
+invariant-loop-s l = Loop l.initial.words l.initial.line l.initial.positions l.initial.x l.s l.attacker l.words l.line l.positions l.x
 
 abbrev pub decreases-loop-s : goal.decreases-loop-s
-decreases-loop-s l = left l.y l.s
+decreases-loop-s l = left l.x l.s

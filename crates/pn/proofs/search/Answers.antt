@@ -5,7 +5,7 @@ use Rattle.pn.proofs.search.Goals as goal
 pub finish-requires : goal.finish-requires
 finish-requires c =
     let end = c.start-last.ensures.1 c.requires.startable.pos c.requires.startable.holds c.requires.startable.accepted in
-    (end.going.stands.path_long, (c.requires.startable.pos, _, end.going), c.start-last.ensures.0)
+    ((c.requires.startable.pos, _, end.going), c.start-last.ensures.0)
 
 pub returns : goal.returns
 returns c p h a =

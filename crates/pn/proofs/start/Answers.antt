@@ -5,11 +5,11 @@ use Rattle.pn.proofs.start.Goals as goal
 
 pub run-requires : goal.run-requires
 run-requires c =
-    (to_loop c.requires.2.startable.pos c.args.s _ _ _ _ _ _ c.requires.2.startable.accepted c.requires.2.ranges (c.side_to_move-attacker.ensures.0 ∙ c.requires.2.startable.holds.side)
-    (c.begin.ensures c.requires.2.startable.pos c.requires.2.startable.holds c.requires.2.startable.accepted)).0
+    (to_loop c.requires.startable.pos c.args.s _ _ _ _ _ _ c.requires.startable.accepted c.requires.ranges (c.side_to_move-attacker.ensures.0 ∙ c.requires.startable.holds.side)
+    (c.begin.ensures c.requires.startable.pos c.requires.startable.holds c.requires.startable.accepted)).0
 
 pub returns : goal.returns
 returns c = (
   c.run.ensures.0,
-  λ p h a. started p c.args.s _ _ _ _ _ _ _ _ _ _ a c.requires.2.ranges (c.side_to_move-attacker.ensures.0 ∙ h.side) (c.begin.ensures p h a) c.run.ensures.1,
+  λ p h a. started p c.args.s _ _ _ _ _ _ _ _ _ _ a c.requires.ranges (c.side_to_move-attacker.ensures.0 ∙ h.side) (c.begin.ensures p h a) c.run.ensures.1,
 )

@@ -14,23 +14,20 @@ root_is : (c : After-solved)
 root_is c g = root_solved g _ _ _ c.phi-phi.ensures c.delta-delta.ensures c.solved.ensures
 
 pub phi-phi-requires : goal.phi-phi-requires
-phi-phi-requires c = (going_root _ _ _ _ _ _ c.requires.table_value.1.going).slot
+phi-phi-requires c = (going_root _ _ _ _ _ _ c.requires.going).slot
 
 pub delta-delta-requires : goal.delta-delta-requires
-delta-delta-requires c = (going_root _ _ _ _ _ _ c.requires.table_value.1.going).slot
+delta-delta-requires c = (going_root _ _ _ _ _ _ c.requires.going).slot
 
 pub returns-then-solved : goal.returns-then-solved
-returns-then-solved c = record { room = c.requires.room; stepped = λ g. stepped_solved g (root_is (goal.at.returns-then-solved c).After-solved g ∙ c.if-solved.true) _ refl refl }
+returns-then-solved c g = stepped_solved g (root_is (goal.at.returns-then-solved c).After-solved g ∙ c.if-solved.true) _ refl refl
 
 pub returns-then-x-s : goal.returns-then-x-s
-returns-then-x-s c =
-    record { room = c.requires.room; stepped = λ g. stepped_spent g c.if-x-s.true (root_is (goal.at.returns-then-x-s c).After-solved g ∙ c.if-solved.false) _ refl refl refl }
+returns-then-x-s c g = stepped_spent g c.if-x-s.true (root_is (goal.at.returns-then-x-s c).After-solved g ∙ c.if-solved.false) _ refl refl refl
 
 pub round-requires : goal.round-requires
-round-requires c =
-    record { room = c.requires.room; table_value = (c.requires.table_value.0, to_round c.requires.table_value.1 (root_is (goal.at.round-requires c).After-solved c.requires.table_value.1 ∙ c.if-solved.false) c.if-x-s.false) }
+round-requires c = to_round c.requires (root_is (goal.at.round-requires c).After-solved c.requires ∙ c.if-solved.false) c.if-x-s.false
 
 pub returns : goal.returns
 unfolding to_round
-returns c =
-    record { room = c.round.ensures.room; stepped = λ g. c.round.ensures.stepped (to_round g (root_is (goal.at.returns c).After-solved g ∙ c.if-solved.false) c.if-x-s.false) }
+returns c g = c.round.ensures (to_round g (root_is (goal.at.returns c).After-solved g ∙ c.if-solved.false) c.if-x-s.false)

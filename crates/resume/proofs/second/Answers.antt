@@ -22,7 +22,7 @@ unspent o b e q h = true≢false (sym q ∙ (rw h at e))
 
 pub finish-requires : goal.finish-requires
 finish-requires c =
-    (c.requires.stopped.going.stands.path_long, (c.requires.start, _, c.requires.stopped.going), c.requires.stopped.stop)
+    ((c.requires.start, _, c.requires.stopped.going), c.requires.stopped.stop)
 
 pub returns-then-ne : goal.returns-then-ne
 returns-then-ne c p h = passes_kept h _ (unspent _ _ c.ne.ensures c.if-ne.true) c.finish.result (c.finish.ensures p _ h.going)
@@ -35,7 +35,7 @@ pub finish-result-requires : goal.finish-result-requires
 unfolding to_go_on
 finish-result-requires c =
     let end = c.go_on-last.ensures (to_go_on c.requires.stopped _ (spent _ _ c.ne.ensures c.if-ne.false) c.requires.ranges c.requires.countable) in
-    (end.going.stands.path_long, (c.requires.start, _, end.going), end.stop)
+    ((c.requires.start, _, end.going), end.stop)
 
 pub overflow_sub-result : goal.overflow_sub-result
 unfolding to_go_on
