@@ -9,11 +9,11 @@ use Rattle.plain.specs.Plain.{game_of}
 use Rattle.words.specs.Words.{Beyond}
 use Rattle.words.proofs.Words.{beyond_trans}
 use Rattle.prover.specs.declared.Prover.{Prover}
+use Rattle.prover.specs.declared.Ascent.{Ascent}
 use Rattle.prover.specs.Stands.{Stands, Searching}
 use Rattle.descend.specs.Promises.{Descended}
 use Rattle.room.specs.Shortness.{AtLeaf, Short}
 use Rattle.expand.specs.Expandable.{Expandable, Expansion, Expands}
-use Rattle.expand.specs.declared.Expanded.{Expanded}
 use Rattle.climb.specs.Asks.{Climbable, Climbs}
 use Rattle.pn.specs.Results.{machine_settings}
 use Rattle.pn.specs.Going.{policy_for}
@@ -69,16 +69,16 @@ module _ {w path ps : List ℕ} {x : Running} {s : Settings} {root : ℕ} (u : U
       unfoldable pub expandable : Expandable w₁ path' ps' y s.rule root
       expandable = to_expand _ _ _ _ _ _ u.from.going u.from.ranges u.from.on u.unsolved u.more _ _ _ _ h.long h.stands enough _ u.from.root_is
 
-      module _ {w₂ : List ℕ} {e : Expanded} (long : length w₂ ≡ length w₁) (k : Expands w₁ path' ps' y s.rule root w₂ e) where
+      module _ {w₂ : List ℕ} {e : Ascent} (long : length w₂ ≡ length w₁) (k : Expands w₁ path' ps' y s.rule root w₂ e) where
         pub grown : Expansion s.rule p.side leaf w₁ path' ps' w₂ e
         unfolding expandable to_expand
         grown = k expandable
 
         -- step 5
-        unfoldable pub climbable : Climbable w₂ path' e.prover e.phi e.delta
+        unfoldable pub climbable : Climbable w₂ path' e.prover e.bounds.phi e.bounds.delta
         climbable = to_climb _ _ _ _ _ _ u.from.going u.from.ranges u.from.on u.unsolved u.more _ _ _ _ h.long h.stands enough _ _ grown
 
-        pub climbed : {v : List ℕ} {next : Prover} → length v ≡ length w₂ → Climbs w₂ path' e.prover e.phi e.delta v next
+        pub climbed : {v : List ℕ} {next : Prover} → length v ≡ length w₂ → Climbs w₂ path' e.prover e.bounds.phi e.bounds.delta v next
             → Standing s p w v path' ps' next (machine.round G P u.from.going.at)
         unfolding climbable to_climb machine.round
         climbed {v} up_long up =

@@ -19,7 +19,7 @@ use Rattle.words.proofs.Free.{all_spare}
 use Rattle.words.proofs.Making.{holding_root}
 use Rattle.words.proofs.States.{holds_start}
 use Rattle.prover.specs.Stands.{Stands}
-use Rattle.node_pool.specs.declared.NodeID.{NodeID}
+use Rattle.node_pool.specs.declared.Vacant.{Vacant}
 use Rattle.prover.specs.declared.Prover.{Prover}
 
 -- an accepted position, and a pool within the range
@@ -42,20 +42,19 @@ root_and rule p = ap not (sym (root_mine rule p))
 
 module _ (rule : ℕ) (p : Position) (w : List ℕ) (some : 0 < capacity w) (few : capacity w ≤ pool_max) where
   -- the state of a search that begins: the root alone is allocated
-  abbrev first : NodeID → ℕ → Prover
-  first head used =
-      record { depth = 0; pool = record { head = head; used = used; allocated = 1; freed = 0 }; proved = 0; disproved = 0; expanded = 0 }
+  abbrev first : Vacant → Prover
+  first vacant = record { depth = 0; pool = record { vacant = vacant; allocated = 1; freed = 0 }; proved = 0; disproved = 0; expanded = 0 }
 
-  pub begun : (v path ps : List ℕ) (free : NodeID) (used phi delta word id : ℕ) (value : Verdict) → value ≡ (view (game_of rule p)).value p
+  pub begun : (v path ps : List ℕ) (free : Vacant) (phi delta word id : ℕ) (value : Verdict) → value ≡ (view (game_of rule p)).value p
       → Pair phi delta (leaf (game_of rule p) p 255).phi (leaf (game_of rule p) p 255).delta → word ≡ pack (verdict_number value) 0 (bit false) 0 255 255
-      → Number w NONE 0 (all_spare w some few) id free.0 used → Filled w v id phi delta word NONE NONE → Beyond w v
+      → Number w NONE 0 (all_spare w some few) id free.head.0 free.used → Filled w v id phi delta word NONE NONE → Beyond w v
       → get_or path 0 0 ≡ id → length path ≡ 82 → length ps ≡ 1968 → game-words.Holds p ps 0
-      → Begun rule p w v path ps (first free used)
+      → Begun rule p w v path ps (first free)
   unfolding leaf packed start
-  begun v path ps free used phi delta word id value ev bounds ew number filled past at long_path long-ps holds = record {
+  begun v path ps free phi delta word id value ev bounds ew number filled past at long_path long-ps holds = record {
     stands = record {
-      tree = holds_start (game_of rule p) (view (game_of rule p)) v path free.0 used p
-          (holding_root (view (game_of rule p)) w path some few id free.0 used number v (leaf (game_of rule p) p 255) (omega arith, omega arith) root at);
+      tree = holds_start (game_of rule p) (view (game_of rule p)) v path free.head.0 free.used p
+          (holding_root (view (game_of rule p)) w path some few id free.head.0 free.used number v (leaf (game_of rule p) p 255) (omega arith, omega arith) root at);
       positions = holds;
       proved_is = refl;
       disproved_is = refl;

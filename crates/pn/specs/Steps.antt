@@ -17,11 +17,11 @@ use Rattle.plain.proofs.Laws.{lawful, policy_sane, policy_needs}
 use Rattle.words.specs.Words.{capacity}
 use Rattle.words.proofs.Steps.{line_root}
 use Rattle.prover.specs.declared.Prover.{Prover}
+use Rattle.prover.specs.declared.Ascent.{Ascent}
 use Rattle.prover.specs.Stands.{Stands}
 use Rattle.stay.specs.Margin.{stay_of}
 use Rattle.room.specs.Shortness.{AtLeaf}
 use Rattle.expand.specs.Expandable.{Expandable, Expansion}
-use Rattle.expand.specs.declared.Expanded.{Expanded}
 use Rattle.climb.specs.Asks.{Climbable}
 use Rattle.pn.specs.Results.{machine_settings}
 use Rattle.pn.specs.Going.{Going, Ranges, policy_for}
@@ -96,7 +96,7 @@ module _ (p : Position) (s : Settings) (w : List ℕ) where
           }
 
       -- what climbing asks for
-      unfoldable pub to_climb : (v : List ℕ) (e : Expanded) → Expansion s.rule p.side t w₁ path' ps' v e → Climbable v path' e.prover e.phi e.delta
+      unfoldable pub to_climb : (v : List ℕ) (e : Ascent) → Expansion s.rule p.side t w₁ path' ps' v e → Climbable v path' e.prover e.bounds.phi e.bounds.delta
       unfolding machine.expand
       to_climb v e h =
           let f = leaf p s w path ps x g ranges going unsolved more in

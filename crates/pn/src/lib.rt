@@ -17,7 +17,7 @@ ghost use Rattle.pn.specs.Stepping.{Steppable, Unsolved, Stepped};
 ghost use Rattle.pn.specs.Searches.{Searchable, Searched, Ran, Started};
 
 use game::{Game, Move};
-use node_pool::{NO_NODE, NodeID, PLIES, Pool};
+use node_pool::{NO_NODE, NodeID, PLIES, Pool, Vacant};
 use positions::POSITIONS;
 use prove::{Bounds, Evaluation};
 use prover::Prover;
@@ -93,13 +93,16 @@ fn begin(
     let value = children::root_value(positions, 0, rule);
     let bounds = children::leaf_bounds(value, false);
     let packed = node_pool::pack(value, false, Move::none());
-    let node = node_pool::alloc(words, NodeID(NO_NODE), 0, bounds, packed, NodeID(NO_NODE));
+    let unused = Vacant {
+        head: NodeID(NO_NODE),
+        used: 0,
+    };
+    let node = node_pool::alloc(words, unused, bounds, packed, NodeID(NO_NODE));
     path[0] = node.id.0;
     Prover {
         depth: 0,
         pool: Pool {
-            head: node.head,
-            used: node.used,
+            vacant: node.vacant,
             allocated: 1,
             freed: 0,
         },
@@ -194,8 +197,8 @@ fn round(
             ..x
         };
     }
-    let e = expand::expand(words, path, positions, leaf, s.rule, attacker);
-    let next = climb::climb(words, path, todo, e.prover, e.phi, e.delta);
+    let grown = expand::expand(words, path, positions, leaf, s.rule, attacker);
+    let next = climb::climb(words, path, todo, grown);
     tick(next, x.tick, s)
 }
 

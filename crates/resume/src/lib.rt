@@ -10,7 +10,7 @@ ghost use Rattle.resume.specs.Keeping.{Stopped, Resumable};
 ghost use Rattle.resume.specs.Passing.{Passable, Passes};
 
 use game::Game;
-use node_pool::{NO_NODE, NodeID, PLIES, Pool};
+use node_pool::{NodeID, PLIES, Pool, Vacant};
 use pn::{Cause, Running, SearchResult, Settings};
 use positions::POSITIONS;
 use prover::Prover;
@@ -26,15 +26,17 @@ pub struct Kept {
 
 // What stands where no search is kept.
 pub fn nothing() -> Kept {
-    let pool = Pool {
-        head: NodeID(NO_NODE),
+    let vacant = Vacant {
+        head: NodeID::none(),
         used: 0,
-        allocated: 0,
-        freed: 0,
     };
     let prover = Prover {
         depth: 0,
-        pool,
+        pool: Pool {
+            vacant,
+            allocated: 0,
+            freed: 0,
+        },
         proved: 0,
         disproved: 0,
         expanded: 0,

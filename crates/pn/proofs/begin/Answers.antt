@@ -24,7 +24,7 @@ returns c p h a =
     let here = c.start.ensures.1 p h in
     let value = c.root_value-value.ensures p here a in
     let node = c.alloc-node.ensures (all_spare _ c.requires.some c.requires.few) in
-    begun c.args.rule p _ c.requires.some c.requires.few _ _ _ _ _ _ _ _ _ _ value
+    begun c.args.rule p _ c.requires.some c.requires.few _ _ _ _ _ _ _ _ _ value
     (c.leaf_bounds-bounds.ensures c.args.rule p.side p 255 value (root_and c.args.rule p))
     (c.pack-packed.ensures ∙ ap (λ (m : ℕ). pack (number c.root_value-value.result) 0 (bit false) 0 m 255) c.none.ensures)
     node.number node.filled node.past
