@@ -1,11 +1,11 @@
 -- Laws of specs/Accepting.antt. What the checks of a search tell: one that is not refused has a record that loads and numbers within their ranges, and that is what the search asks for.
 -- Rests on Searches, calls' Refusing and pn's Searchable.
-use Rattle.std.specs.Prelude.{◌≡◌, not, List, [], ◌∷◌, ℕ, ◌≤◌, ltb, length}
+use Rattle.std.specs.Prelude.{◌≡◌, Bool, not, List, [], ◌∷◌, ℕ, ◌≤◌, ltb, length}
 use Rattle.std.proofs.Common.{sym, ◌∙◌, arith, le-ltb}
 use Rattle.rules.specs.Record.{position_of, refusal, Accepted}
 use Rattle.rules.proofs.Checks.{loads, loads_accepted}
 use Rattle.rules.specs.Refusals.{refuses, first_refusal}
-use Rattle.rules.proofs.RefusalLaws.{none_refuses, passes_need}
+use Rattle.rules.proofs.RefusalLaws.{none_refuses, first_refuses, rest_refuses, passes_need}
 use Rattle.calls.proofs.Refusing.{passes_test}
 use Rattle.game.specs.Words.{Holds}
 use Rattle.pn.specs.Searches.{Searchable}
@@ -34,20 +34,20 @@ accepts bytes words rule L e =
       stay_is_in_range = passes_need 20 _ (none_refuses _ _ budget_at_most.1).0;
     }
 
--- the checks, each with the number that the code has for it
-pub accept_code : (bytes : List ℕ) (capacity rule : ℕ) (L : Limits) {record_code pool_none pool_over rule_over interval_under interval_over budget_over margin_none n : ℕ}
-    → record_code ≡ refusal bytes
-    → pool_none ≡ refuses 8 (ltb capacity pool_least)
-    → pool_over ≡ refuses 9 (ltb pool_most capacity)
-    → rule_over ≡ refuses 10 (ltb last_rule rule)
-    → interval_under ≡ refuses 10 (ltb L.interval interval_least)
-    → interval_over ≡ refuses 10 (ltb interval_most L.interval)
-    → budget_over ≡ refuses 10 (ltb budget_most L.budget)
-    → margin_none ≡ refuses 21 (not (stay_in_range L.stay))
-    → n ≡ first_refusal (record_code ∷ pool_none ∷ pool_over ∷ rule_over ∷ interval_under ∷ interval_over ∷ budget_over ∷ margin_none ∷ [])
-    → n ≡ search_refusal bytes capacity rule L
-unfolding search_refusal
-accept_code bytes capacity rule L a b c d e f g h i = rw (i, a, b, c, d, e, f, g, h)
+-- the record's checks, and the others after them
+module _ (bytes : List ℕ) (capacity rule : ℕ) (L : Limits) where
+  pub accept_record : (n : ℕ) → n ≡ refusal bytes → (n ≡ 0 → ⊥) → n ≡ search_refusal bytes capacity rule L
+  unfolding search_refusal
+  accept_record n e z = rw (← e) (sym (first_refuses n _ z))
+
+  pub accept_late : refusal bytes ≡ 0 → (n : ℕ) (in_range : Bool) → in_range ≡ stay_in_range L.stay
+      → n ≡ first_refusal (
+        refuses 8 (ltb capacity pool_least) ∷ refuses 9 (ltb pool_most capacity) ∷ refuses 10 (ltb last_rule rule) ∷ refuses 10 (ltb L.interval interval_least)
+        ∷ refuses 10 (ltb interval_most L.interval) ∷ refuses 10 (ltb budget_most L.budget) ∷ refuses 21 (not in_range) ∷ []
+      )
+      → n ≡ search_refusal bytes capacity rule L
+  unfolding search_refusal
+  accept_late loaded n in_range es en = en ∙ rw es (sym (rest_refuses (refusal bytes) _ loaded))
 
 -- the checks of a pool whose capacity has been counted
 pub of_pool : (bytes : List ℕ) (capacity words rule : ℕ) (L : Limits) (n : ℕ) → n ≡ search_refusal bytes capacity rule L → capacity ≡ nodes words

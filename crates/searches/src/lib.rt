@@ -2,8 +2,9 @@
 
 #![tactic(auto)]
 
-ghost use Rattle.std.specs.Prelude.{◌≡◌, List, ℕ, length};
+ghost use Rattle.std.specs.Prelude.{◌≡◌, List, ℕ, IfOk, length};
 ghost use Rattle.rules.specs.Record.{position_of};
+ghost use Rattle.refusals.specs.Numbers.{refusal_code};
 ghost use Rattle.game.specs.Words.{Holds};
 ghost use Rattle.machine.specs.Machine.{Result};
 ghost use Rattle.prove.specs.Numbers.{verdict};
@@ -13,11 +14,11 @@ ghost use Rattle.searches.specs.Answers.{limits_of, searched, full_verdict, judg
 ghost use Rattle.searches.specs.Accepting.{Passed, SearchesPassed};
 ghost use Rattle.searches.specs.ThirdCondition.{ThirdCondition};
 
-use calls::{LAST_RULE, refusals};
+use calls::LAST_RULE;
 use game::Game;
 use pn::{SearchResult, Settings};
 use prove::Evaluation;
-use record::Loaded;
+use refusals::Refusal;
 use stay::Stay;
 
 // The ends of search's ranges: nodes of the pool, interval, budget.
@@ -40,35 +41,22 @@ pub struct SearchLimits {
     pub stay: Stay,
 }
 
-// The answer of search: the result, or the check that turned the call back.
-#[derive(Clone, Copy)]
-pub enum Outcome {
-    Answered(SearchResult),
-    Refused(u8),
-}
-
-// All of search's checks, in their order, of a pool with so many nodes: 0 and the position, or the number of the first that refuses.
-pub fn accept(bytes: &[u8], nodes: usize, rule: u64, l: SearchLimits) -> Loaded
-    ensures code_value { result.code ≡ search_refusal bytes.now nodes rule (limits_of l) }
-    ensures position { result.code ≡ 0 → Holds (position_of bytes.now) result.game.words 0 }
+// All of search's checks, in their order, of a pool with so many nodes: the position, or the first that refuses.
+pub fn accept(bytes: &[u8], nodes: usize, rule: u64, l: SearchLimits) -> Result<Game, Refusal>
+    ensures code { refusal_code result ≡ search_refusal bytes.now nodes rule (limits_of l) }
+    ensures position { IfOk result (λ g. Holds (position_of bytes.now) g.words 0) }
 {
-    let loaded = record::load(bytes);
-    let game = loaded.game;
-    let stay = l.stay;
-    let checks = [
-        loaded.code,
-        refusals::refuses(8, nodes < LEAST_NODES),
-        refusals::refuses(9, nodes > MOST_NODES),
-        refusals::refuses(10, rule > LAST_RULE),
-        refusals::refuses(10, l.interval < LEAST_INTERVAL),
-        refusals::refuses(10, l.interval > MOST_INTERVAL),
-        refusals::refuses(10, l.budget > MOST_BUDGET),
-        refusals::refuses(21, !stay::in_range(stay)),
-    ];
-    Loaded {
-        code: refusals::first(&checks),
-        game,
-    }
+    let game = record::load(bytes)?;
+    refusals::first(&[
+        (nodes < LEAST_NODES, Refusal::NoNode),
+        (nodes > MOST_NODES, Refusal::ManyNodes),
+        (rule > LAST_RULE, Refusal::Range),
+        (l.interval < LEAST_INTERVAL, Refusal::Range),
+        (l.interval > MOST_INTERVAL, Refusal::Range),
+        (l.budget > MOST_BUDGET, Refusal::Range),
+        (!stay::in_range(l.stay), Refusal::Margin),
+    ])?;
+    Ok(game)
 }
 
 // Searches an accepted record's position in the lent pool.
@@ -76,35 +64,34 @@ pub fn search_accepted(start: Game, words: &mut [u32], rule: u64, l: SearchLimit
     requires { (bytes : List ℕ) × Passed bytes start.words (length words.old) rule (limits_of l) }
     ensures { SearchesPassed start.words rule (limits_of l) words.old words.new result }
 {
-    let stay = l.stay;
     let s = Settings {
         rule,
         limit: l.limit,
         budget: l.budget,
         interval: l.interval,
-        stay,
+        stay: l.stay,
     };
     pn::search(words, start, s)
 }
 
 // Searches a record's position in the lent pool.
-pub fn search(bytes: &[u8], words: &mut [u32], rule: u64, l: SearchLimits) -> Outcome
+pub fn search(
+    bytes: &[u8],
+    words: &mut [u32],
+    rule: u64,
+    l: SearchLimits,
+) -> Result<SearchResult, Refusal>
     ensures { (searched result ≡ search_call bytes.now (length words.old) rule (limits_of l)) × PoolAfter (searched result) words.old words.new }
 {
-    let nodes = node_pool::capacity(words);
-    let loaded = accept(bytes, nodes, rule, l);
-    if loaded.code != 0 {
-        return Outcome::Refused(loaded.code);
-    }
-    let start = loaded.game;
-    Outcome::Answered(search_accepted(start, words, rule, l))
+    let start = accept(bytes, node_pool::capacity(words), rule, l)?;
+    Ok(search_accepted(start, words, rule, l))
 }
 
 // The answers of two searches.
 #[derive(Clone, Copy)]
 pub struct TwoOutcomes {
-    pub first: Outcome,
-    pub second: Outcome,
+    pub first: Result<SearchResult, Refusal>,
+    pub second: Result<SearchResult, Refusal>,
 }
 
 // Two searches of one record under one rule, each in its own pool: the third condition, of code.
@@ -126,7 +113,7 @@ pub fn two_searches(
 }
 
 // The six full verdicts.
-#[derive(Clone, Copy)]
+#[derive(Clone, Copy, PartialEq, Eq)]
 pub enum FullVerdict {
     Win,
     Loss,
@@ -136,46 +123,40 @@ pub enum FullVerdict {
     Undecided,
 }
 
-// The answer of full verdict, with the results under rules 1 and 2, or the check that turned the call back.
+// A full verdict, with the results under rules 1 and 2.
 #[derive(Clone, Copy)]
-pub enum FullOutcome {
-    Full(FullVerdict, SearchResult, SearchResult),
-    TurnedBack(u8),
+pub struct Full {
+    pub verdict: FullVerdict,
+    pub first: SearchResult,
+    pub second: SearchResult,
 }
 
 // The full verdict, from the verdicts under rules 1 and 2.
+#[tactic(auto, unfolding(crate::specs::Searches::full_of))]
 fn full_of(first: Evaluation, second: Evaluation) -> FullVerdict
     ensures { full_verdict result ≡ full_of (verdict first) (verdict second) }
 {
-    match first {
-        Evaluation::True => FullVerdict::Win,
-        Evaluation::False => match second {
-            Evaluation::True => FullVerdict::Draw,
-            Evaluation::False => FullVerdict::Loss,
-            Evaluation::Unknown => FullVerdict::AtMostDraw,
-        },
-        Evaluation::Unknown => match second {
-            Evaluation::True => FullVerdict::AtLeastDraw,
-            Evaluation::False => FullVerdict::Loss,
-            Evaluation::Unknown => FullVerdict::Undecided,
-        },
+    match (first, second) {
+        (Evaluation::True, _) => FullVerdict::Win,
+        (Evaluation::False, Evaluation::True) => FullVerdict::Draw,
+        (Evaluation::Unknown, Evaluation::True) => FullVerdict::AtLeastDraw,
+        (_, Evaluation::False) => FullVerdict::Loss,
+        (Evaluation::False, Evaluation::Unknown) => FullVerdict::AtMostDraw,
+        (Evaluation::Unknown, Evaluation::Unknown) => FullVerdict::Undecided,
     }
 }
 
 // Searches a record's position under rule 1, then under rule 2, each from a fresh pool: nothing that the first left in the words counts. Its checks are those of
 // a search under any rule.
-pub fn full_verdict(bytes: &[u8], words: &mut [u32], l: SearchLimits) -> FullOutcome
+pub fn full_verdict(bytes: &[u8], words: &mut [u32], l: SearchLimits) -> Result<Full, Refusal>
     ensures { (judged result ≡ full_call bytes.now (length words.old) (limits_of l)) × PoolAfterFull (judged result) words.old words.new }
 {
-    let nodes = node_pool::capacity(words);
-    let loaded = accept(bytes, nodes, 0, l);
-    if loaded.code != 0 {
-        return FullOutcome::TurnedBack(loaded.code);
-    }
-    let start = loaded.game;
+    let start = accept(bytes, node_pool::capacity(words), 0, l)?;
     let first = search_accepted(start, words, 1, l);
     let second = search_accepted(start, words, 2, l);
-    let with_rule_1 = first.verdict;
-    let with_rule_2 = second.verdict;
-    FullOutcome::Full(full_of(with_rule_1, with_rule_2), first, second)
+    Ok(Full {
+        verdict: full_of(first.verdict, second.verdict),
+        first,
+        second,
+    })
 }
