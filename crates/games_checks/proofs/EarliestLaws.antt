@@ -1,11 +1,16 @@
 -- Laws of specs/Earliest.antt. The earliest check of some records and the lowest game, as the code finds them: from the last game down. Rests on Checks.
-use Rattle.std.specs.Prelude.{◌≡◌, refl, List, [], ◌∷◌, ℕ, zero, suc, ◌+◌, ◌*◌, ◌-◌, ◌≤◌, ◌<◌, min, take, drop}
+use Rattle.std.specs.Prelude.{◌≡◌, refl, List, [], ◌∷◌, ℕ, zero, suc, ◌+◌, ◌*◌, ◌-◌, ◌≤◌, ◌<◌, min, take, drop, Result, Ok, Err}
 use Rattle.std.proofs.Common.{ap, ◌∙◌, subst, arith, eq-eqb, ne_eqb}
 use Rattle.std.proofs.Math.Path.{sym}
 use Rattle.rules.specs.Rules.{answers}
 use Rattle.rules.specs.Record.{refusal}
+use Rattle.refusals.specs.Numbers.{number, refusal_code}
+use Rattle.refusals.specs.declared.Refusal.{Refusal}
+use Rattle.refusals.proofs.Passes.{number_positive, ok_code, err_code}
+use Rattle.game.specs.declared.Game.{Game}
+use Rattle.games_checks.specs.declared.GameRefusal.{GameRefusal}
 use Rattle.games_checks.specs.Checks.{refusal_at, earlier, earliest, lowest}
-use Rattle.games_checks.specs.Earliest.{EarlyAt}
+use Rattle.games_checks.specs.Earliest.{game_code, game_index, EarlyAt}
 
 pub early_empty : (i : ℕ) → EarlyAt i [] 0 0
 unfolding earliest
@@ -50,6 +55,28 @@ module _ (i j : ℕ) (e : j ≡ suc i) (ns : List ℕ) (code index : ℕ) (h : E
     pub early_sooner : found ≤ code → EarlyAt i (found ∷ ns) found i
     early_sooner l = record { code_is = omega (arith, both, h.code_is); index_is = λ n. omega (arith, here) }
 
+-- the same of the code's results
+module _ (i j : ℕ) (e : j ≡ suc i) (ns : List ℕ) (loaded : Result Game Refusal) (later : Result (Unit {0}) GameRefusal) (h : EarlyAt j ns (game_code later) (game_index later)) where
+  pub sooner_passed : (g : Game) → loaded ≡ Ok g → EarlyAt i (refusal_code loaded ∷ ns) (game_code later) (game_index later)
+  sooner_passed g q = early_passed i j e ns _ _ h _ (ok_code loaded g q)
+
+  module _ (r : Refusal) (q : loaded ≡ Err r) where
+    found : (code index : ℕ) → EarlyAt i (number r ∷ ns) code index → EarlyAt i (refusal_code loaded ∷ ns) code index
+    found code index x = subst (λ m. EarlyAt i (m ∷ ns) code index) (err_code loaded r q) x
+
+    pub sooner_alone : (u : Unit {0}) → later ≡ Ok u → EarlyAt i (refusal_code loaded ∷ ns) (number r) i
+    sooner_alone u z = found _ _ (early_first i j e ns _ _ h (number r) (ap game_code z))
+
+    module _ (x : GameRefusal) (z : later ≡ Err x) where
+      some : game_code later ≡ 0 → ⊥
+      some y = number_positive x.refusal (sym (ap game_code z) ∙ y)
+
+      pub sooner_kept : number x.refusal < number r → EarlyAt i (refusal_code loaded ∷ ns) (game_code later) (game_index later)
+      sooner_kept l = found _ _ (early_kept i j e ns _ _ h (number r) (number_positive r) some (omega (arith, ap game_code z)))
+
+      pub sooner_here : number r ≤ number x.refusal → EarlyAt i (refusal_code loaded ∷ ns) (number r) i
+      sooner_here l = found _ _ (early_sooner i j e ns _ _ h (number r) (number_positive r) some (omega (arith, ap game_code z)))
+
 -- the loop over the games
 pub record Looked (bytes : List ℕ) (n i code index : ℕ) : Type 0 where
   pub low : i ≤ n
@@ -58,18 +85,19 @@ pub record Looked (bytes : List ℕ) (n i code index : ℕ) : Type 0 where
 pub looked_start : (bytes : List ℕ) (n : ℕ) → Looked bytes n n 0 0
 looked_start bytes n = let q : 0 ≡ n - n = omega arith in record { low = omega arith; early = subst (λ k. EarlyAt n (answers (refusal_at bytes) n k) 0 0) q (early_empty n) }
 
-pub looked_next : (bytes : List ℕ) (n i j code index found code' index' : ℕ) → j ≡ suc i → Looked bytes n j code index
-    → found ≡ refusal (take (i * 21 + 21 - i * 21) (drop (i * 21) bytes))
-    → ((ns : List ℕ) → EarlyAt j ns code index → EarlyAt i (found ∷ ns) code' index') → Looked bytes n i code' index'
-looked_next bytes n i j code index found code' index' e h ef f =
-    let q : i * 21 + 21 - i * 21 ≡ 21 = omega arith in
-    let k : suc (n - j) ≡ n - i = omega (arith, h.low) in
-    let there : found ≡ refusal_at bytes i = ef ∙ ap (λ m. refusal (take m (drop (i * 21) bytes))) q in
+pub looked_next : (bytes : List ℕ) (n i code index found code' index' : ℕ) → 0 < i → Looked bytes n i code index
+    → found ≡ refusal (take ((i - 1) * 21 + 21 - (i - 1) * 21) (drop ((i - 1) * 21) bytes))
+    → ((j : ℕ) → j ≡ suc (i - 1) → (ns : List ℕ) → EarlyAt j ns code index → EarlyAt (i - 1) (found ∷ ns) code' index') → Looked bytes n (i - 1) code' index'
+looked_next bytes n i code index found code' index' l h ef f =
+    let e : i ≡ suc (i - 1) = omega arith in
+    let q : (i - 1) * 21 + 21 - (i - 1) * 21 ≡ 21 = omega arith in
+    let k : suc (n - i) ≡ n - (i - 1) = omega (arith, h.low) in
+    let there : found ≡ refusal_at bytes (i - 1) = ef ∙ ap (λ m. refusal (take m (drop ((i - 1) * 21) bytes))) q in
     record {
       low = omega (arith, h.low);
-      early = subst (λ m. EarlyAt i (answers (refusal_at bytes) i m) code' index') k
-          (subst (λ m. EarlyAt i (refusal_at bytes i ∷ answers (refusal_at bytes) m (n - j)) code' index') e
-          (subst (λ m. EarlyAt i (m ∷ answers (refusal_at bytes) j (n - j)) code' index') there (f _ h.early)));
+      early = subst (λ m. EarlyAt (i - 1) (answers (refusal_at bytes) (i - 1) m) code' index') k
+          (subst (λ m. EarlyAt (i - 1) (refusal_at bytes (i - 1) ∷ answers (refusal_at bytes) m (n - i)) code' index') e
+          (subst (λ m. EarlyAt (i - 1) (m ∷ answers (refusal_at bytes) i (n - i)) code' index') there (f i e _ h.early)));
     }
 
 pub looked_done : (bytes : List ℕ) (n i code index : ℕ) → i ≤ 0 → Looked bytes n i code index → EarlyAt 0 (answers (refusal_at bytes) 0 n) code index

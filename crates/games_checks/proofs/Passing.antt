@@ -11,10 +11,10 @@ use Rattle.calls.specs.Calls.{last_rule}
 use Rattle.calls.proofs.Refusing.{passes_test}
 use Rattle.searches.specs.Searches.{pool_least, pool_most, interval_least, interval_most, budget_most}
 use Rattle.games_checks.specs.Checks.{games_least, games_most, games, number_refusal, Common, settings_refusal}
-use Rattle.games_checks.specs.Sums.{Summing}
 
 -- the checks with the sum that the code has: it counts only where no share is above the range
-pub settings_refuse : (capacity n : ℕ) (shares : List ℕ) (C : Common) (above : Bool) (sum : ℕ) → Summing shares above sum
+pub settings_refuse : (capacity n : ℕ) (shares : List ℕ) (C : Common) (above over : Bool) → above ≡ any (ltb budget_most) shares
+    → (above ≡ false → over ≡ ltb C.allowance (total shares))
     → first_refusal (
     refuses 8 (ltb (capacity / n) pool_least)
     ∷ refuses 9 (ltb pool_most capacity)
@@ -24,16 +24,16 @@ pub settings_refuse : (capacity n : ℕ) (shares : List ℕ) (C : Common) (above
     ∷ refuses 10 above
     ∷ refuses 10 (ltb budget_most C.allowance)
     ∷ refuses 21 (not (stay_in_range C.stay))
-    ∷ refuses 20 (ltb C.allowance sum)
+    ∷ refuses 20 over
     ∷ []
     ) ≡ settings_refusal capacity n shares C
 unfolding settings_refusal
-settings_refuse capacity n shares C above sum h =
-    same_first _ _ _ (same_first _ _ _ (same_first _ _ _ (same_first _ _ _ (same_first _ _ _ (go above h.above_is h.sum_is)))))
+settings_refuse capacity n shares C above over e s =
+    same_first _ _ _ (same_first _ _ _ (same_first _ _ _ (same_first _ _ _ (same_first _ _ _ (go above e s)))))
   where
-    go : (b : Bool) → b ≡ any (ltb budget_most) shares → (b ≡ false → sum ≡ total shares)
+    go : (b : Bool) → b ≡ any (ltb budget_most) shares → (b ≡ false → over ≡ ltb C.allowance (total shares))
         → let margin = refuses 21 (not (stay_in_range C.stay)) in
-        first_refusal (refuses 10 b ∷ refuses 10 (ltb budget_most C.allowance) ∷ margin ∷ refuses 20 (ltb C.allowance sum) ∷ [])
+        first_refusal (refuses 10 b ∷ refuses 10 (ltb budget_most C.allowance) ∷ margin ∷ refuses 20 over ∷ [])
         ≡ first_refusal (refuses 10 (any (ltb budget_most) shares) ∷ refuses 10 (ltb budget_most C.allowance) ∷ margin ∷ refuses 20 (ltb C.allowance (total shares)) ∷ [])
     go true e s = rw (sym e) (unfold first_refusal in refl)
     go false e s = rw (sym e, s refl)

@@ -1,53 +1,54 @@
--- Laws of specs/Sums.antt. The shares, as the code adds them up: from the last game down. Rests on Checks.
-use Rattle.std.specs.Prelude.{◌≡◌, refl, Bool, true, false, List, [], ◌∷◌, ℕ, suc, ◌+◌, ◌*◌, ◌-◌, ◌≤◌, ◌<◌, get_or}
-use Rattle.std.proofs.Math.Path.{sym}
-use Rattle.std.proofs.Common.{◌∙◌, subst, true≢false, arith, lt-ltb, le-ltb}
-use Rattle.rules.specs.Rules.{answers}
-use Rattle.rules.proofs.Answers.{length_answers}
+-- The loop over the shares: what it has added up, and its end. Rests on Sums and Checks.
+use Rattle.std.specs.Prelude.{◌≡◌, refl, true, false, cond, List, ◌∷◌, ℕ, suc, ◌+◌, ◌*◌, ◌-◌, ◌≤◌, ◌<◌, Option, None, Some, ltb, length, get_or, take}
+use Rattle.std.proofs.Common.{ap, sym, ◌∙◌, subst, arith, add-one, lt-ltb, le-ltb}
+use Rattle.std.proofs.lemmas.List.{get_or-take, length-take-le}
+use Rattle.rules.specs.Rules.{answers, any}
 use Rattle.passes.specs.Passes.{total}
 use Rattle.searches.specs.Searches.{budget_most}
-use Rattle.games_checks.specs.Checks.{games_most, shares_of}
-use Rattle.games_checks.specs.Sums.{Summing}
+use Rattle.games_checks.specs.Checks.{shares_of}
+use Rattle.games_checks.specs.Sums.{sum_within}
 
-pub summing_none : Summing [] false 0
-unfolding total
-summing_none = record { above_is = refl; sum_is = λ e. refl; most = omega arith }
+-- n shares, from share i on
+abbrev from : (shares : List ℕ) (n i : ℕ) → List ℕ
+from shares n i = answers (λ k. get_or shares k 0) i (n - i)
 
-module _ (ns : List ℕ) (above : Bool) (sum share : ℕ) (h : Summing ns above sum) where
-  pub summing_within : share ≤ budget_most → Summing (share ∷ ns) above (sum + share)
-  unfolding total
-  summing_within l = record { above_is = h.above_is ∙ sym (rw (le-ltb budget_most share l)); sum_is = λ e. omega (arith, h.sum_is e); most = omega (arith, h.most) }
-
-  pub summing_above : budget_most < share → Summing (share ∷ ns) true sum
-  unfolding total
-  summing_above l = record { above_is = sym (rw (lt-ltb budget_most share l)); sum_is = λ e. absurd (true≢false e); most = omega (arith, h.most) }
-
--- the loop over the games
-pub record Summed (shares : List ℕ) (n i : ℕ) (above : Bool) (sum : ℕ) : Type 0 where
+-- the first i of n shares are within the range and add up to this
+pub record Summing (shares : List ℕ) (n i sum : ℕ) : Type 0 where
   pub low : i ≤ n
-  pub summing : Summing (answers (λ k. get_or shares k 0) i (n - i)) above sum
+  pub any_is : any (ltb budget_most) (shares_of shares n) ≡ any (ltb budget_most) (from shares n i)
+  pub total_is : total (shares_of shares n) ≡ sum + total (from shares n i)
+  pub most : sum ≤ i * budget_most
 
-pub summed_start : (shares : List ℕ) (n : ℕ) → Summed shares n n false 0
-summed_start shares n =
-    let q : 0 ≡ n - n = omega arith in
-    record { low = omega arith; summing = subst (λ k. Summing (answers (λ k. get_or shares k 0) n k) false 0) q summing_none }
+pub summing_start : (shares : List ℕ) (n : ℕ) → Summing shares n 0 0
+summing_start shares n =
+    let z : n ≡ n - 0 = omega arith in
+    record { low = omega arith; any_is = ap (λ m. any (ltb budget_most) (answers (λ k. get_or shares k 0) 0 m)) z; total_is = rw (← z) (omega arith); most = omega arith }
 
-pub summed_next : (shares : List ℕ) (n i j : ℕ) (above above' : Bool) (sum sum' : ℕ) → j ≡ suc i → Summed shares n j above sum
-    → ((ns : List ℕ) → Summing ns above sum → Summing (get_or shares i 0 ∷ ns) above' sum') → Summed shares n i above' sum'
-summed_next shares n i j above above' sum sum' e h f =
-    let k : suc (n - j) ≡ n - i = omega (arith, h.low) in
-    record {
-      low = omega (arith, h.low);
-      summing = subst (λ m. Summing (answers (λ k. get_or shares k 0) i m) above' sum') k
-          (subst (λ m. Summing (get_or shares i 0 ∷ answers (λ k. get_or shares k 0) m (n - j)) above' sum') e (f _ h.summing));
-    }
+module _ (shares : List ℕ) (n i sum : ℕ) (h : Summing shares n i sum) (long : n ≤ length shares) (l : i < length (take n shares)) where
+  within : i < n
+  within = omega (arith, l, length-take-le n shares long)
 
-pub summed_done : (shares : List ℕ) (n i : ℕ) (above : Bool) (sum : ℕ) → i ≤ 0 → Summed shares n i above sum → Summing (shares_of shares n) above sum
-summed_done shares n i above sum l h =
-    let q : i ≡ 0 = omega arith in
-    let z : n - 0 ≡ n = omega arith in
-    subst (λ m. Summing (answers (λ k. get_or shares k 0) 0 m) above sum) z (subst (λ m. Summing (answers (λ k. get_or shares k 0) m (n - m)) above sum) q h.summing)
+  same : get_or (take n shares) i 0 ≡ get_or shares i 0
+  same = get_or-take n shares i 0 within
 
--- there is room for one more
-pub summed_room : (shares : List ℕ) (n i : ℕ) (above : Bool) (sum : ℕ) → n ≤ games_most → Summed shares n i above sum → sum ≤ games_most * budget_most
-summed_room shares n i above sum l h = omega (arith, h.summing.most, length_answers (λ k. get_or shares k 0) i (n - i))
+  next : from shares n i ≡ get_or (take n shares) i 0 ∷ from shares n (i + 1)
+  next = let w : i < n = within in let k : n - i ≡ suc (n - suc i) = omega arith in rw (k, add-one, same) refl
+
+  pub summing_above : budget_most < get_or (take n shares) i 0 → None ≡ sum_within (shares_of shares n)
+  summing_above a = rw (h.any_is, next, lt-ltb budget_most (get_or (take n shares) i 0) a) refl
+
+  pub summing_next : get_or (take n shares) i 0 ≤ budget_most → Summing shares n (i + 1) (sum + get_or (take n shares) i 0)
+  unfolding total
+  summing_next a = record {
+    low = omega (arith, within);
+    any_is = h.any_is ∙ rw (next, le-ltb budget_most (get_or (take n shares) i 0) a) refl;
+    total_is = h.total_is ∙ rw next (omega arith);
+    most = omega (arith, h.most);
+  }
+
+pub summing_done : (shares : List ℕ) (n i sum : ℕ) → Summing shares n i sum → n ≤ length shares → length (take n shares) ≤ i → Some sum ≡ sum_within (shares_of shares n)
+unfolding total
+summing_done shares n i sum h long l =
+    let z : n - i ≡ 0 = omega (arith, length-take-le n shares long) in
+    let t : total (shares_of shares n) ≡ sum = h.total_is ∙ rw z (omega arith) in
+    rw (h.any_is, z, t) refl

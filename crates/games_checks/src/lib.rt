@@ -4,14 +4,16 @@
 
 ghost use Rattle.std.specs.Prelude.{◌≡◌, List, ◌∷◌, ℕ, suc, ◌*◌, ◌≤◌, ◌<◌, length};
 ghost use Rattle.rules.specs.Rules.{answers};
-ghost use Rattle.searches.specs.Searches.{budget_most};
-ghost use Rattle.games_checks.specs.Checks.{games_most, number_refusal, refusal_at, shares_of, settings_refusal};
+ghost use Rattle.refusals.specs.Numbers.{refusal_code};
+ghost use Rattle.games_checks.specs.Checks.{number_refusal, refusal_at, shares_of, settings_refusal};
 ghost use Rattle.games_checks.specs.Common.{common_of};
-ghost use Rattle.games_checks.specs.Earliest.{EarlyAt};
-ghost use Rattle.games_checks.specs.Sums.{Summing};
+ghost use Rattle.games_checks.specs.Earliest.{of_no_game, game_code, game_index, EarlyAt};
+ghost use Rattle.games_checks.specs.Sums.{sum_within};
 
-use calls::{LAST_RULE, refusals};
+use calls::LAST_RULE;
+use game::Game;
 use record::RECORD_LENGTH;
+use refusals::Refusal;
 use searches::{LEAST_INTERVAL, LEAST_NODES, MOST_BUDGET, MOST_INTERVAL, MOST_NODES};
 use stay::Stay;
 
@@ -30,126 +32,110 @@ pub struct Common {
     pub stay: Stay,
 }
 
-// Checks 1 and 20: the bytes are no whole number of records; no game, or more than eight. The number of the first that refuses, or 0.
-pub fn check_number(bytes: &[u8]) -> u8
-    ensures { result ≡ number_refusal bytes.now }
-{
-    let games = bytes.len() / RECORD_LENGTH;
-    let checks = [
-        refusals::refuses(1, bytes.len() % RECORD_LENGTH != 0),
-        refusals::refuses(20, games < LEAST_GAMES),
-        refusals::refuses(20, games > MOST_GAMES),
-    ];
-    refusals::first(&checks)
-}
-
-// The earliest check that refuses a record, or 0, and the lowest game whose record it refuses.
-#[derive(Clone, Copy)]
-pub struct Early {
-    pub code: u8,
+// Why a call that judges games is turned back, and the game that it names, or 0.
+#[derive(Clone, Copy, PartialEq, Eq)]
+pub struct GameRefusal {
+    pub refusal: Refusal,
     pub index: usize,
 }
 
-// Game i's refusal, or 0, before those of the games after it.
-fn sooner(found: u8, i: usize, e: Early) -> Early
-    ensures { (j : ℕ) → j ≡ suc i → (ns : List ℕ) → EarlyAt j ns e.code e.index → EarlyAt i (found ∷ ns) result.code result.index }
-{
-    if found == 0 {
-        return e;
-    }
-    if e.code == 0 {
-        return Early {
-            code: found,
-            index: i,
-        };
-    }
-    if e.code < found {
-        return e;
-    }
-    Early {
-        code: found,
-        index: i,
+impl From<Refusal> for GameRefusal {
+    ghost from_gives = { λ r e. e ≡ of_no_game r };
+
+    fn from(refusal: Refusal) -> GameRefusal {
+        GameRefusal { refusal, index: 0 }
     }
 }
 
-// Checks 2 to 6 and 22 of n records, from the last down.
-pub fn earliest(bytes: &[u8], n: usize) -> Early
-    requires { (n ≤ 8) × (n * 21 ≤ length bytes.now) }
-    ensures { EarlyAt 0 (answers (refusal_at bytes.now) 0 n) result.code result.index }
+// Checks 1 and 20: the bytes are no whole number of records; no game, or more than eight.
+pub fn check_number(bytes: &[u8]) -> Result<(), Refusal>
+    ensures { refusal_code result ≡ number_refusal bytes.now }
 {
-    let mut e = Early { code: 0, index: 0 };
-    let mut i = n;
-    while i > 0 {
-        let j = i - 1;
-        let start = j * RECORD_LENGTH;
-        let end = start + RECORD_LENGTH;
-        let loaded = record::load(&bytes[start..end]);
-        e = sooner(loaded.code, j, e);
-        i = j;
-    }
-    e
+    let games = bytes.len() / RECORD_LENGTH;
+    refusals::first(&[
+        (bytes.len() % RECORD_LENGTH != 0, Refusal::Length),
+        (games < LEAST_GAMES, Refusal::Games),
+        (games > MOST_GAMES, Refusal::Games),
+    ])
 }
 
-// Whether one of some shares is above the range, and otherwise their sum.
-#[derive(Clone, Copy)]
-pub struct Sum {
-    pub above: bool,
-    pub total: u64,
-}
-
-// One more share.
-#[tactic(auto, using(crate::proofs::Sums::summing_above))]
-fn added(share: u64, s: Sum) -> Sum
-    requires { s.total ≤ games_most * budget_most }
-    ensures { (ns : List ℕ) → Summing ns s.above s.total → Summing (share ∷ ns) result.above result.total }
+#[tactic(auto, using(crate::proofs::EarliestLaws::sooner_passed, crate::proofs::EarliestLaws::sooner_alone, crate::proofs::EarliestLaws::sooner_kept, crate::proofs::EarliestLaws::sooner_here))]
+// Game i's refusal, if there is one, before those of the games after it.
+fn sooner(
+    loaded: Result<Game, Refusal>,
+    i: usize,
+    later: Result<(), GameRefusal>,
+) -> Result<(), GameRefusal>
+    ensures { (j : ℕ) → j ≡ suc i → (ns : List ℕ) → EarlyAt j ns (game_code later) (game_index later) → EarlyAt i (refusal_code loaded ∷ ns) (game_code result) (game_index result) }
 {
-    if share > MOST_BUDGET {
-        return Sum {
-            above: true,
-            total: s.total,
-        };
-    }
-    Sum {
-        above: s.above,
-        total: s.total + share,
-    }
-}
-
-// The shares of n games, from the last down.
-fn summed(shares: &[u64; MOST_GAMES], n: usize) -> Sum
-    requires { n ≤ 8 }
-    ensures { Summing (shares_of shares.now n) result.above result.total }
-{
-    let mut s = Sum {
-        above: false,
-        total: 0,
+    let Err(refusal) = loaded else {
+        return later;
     };
-    let mut i = n;
-    while i > 0 {
-        let j = i - 1;
-        s = added(shares[j], s);
-        i = j;
+    let here = GameRefusal { refusal, index: i };
+    match later {
+        Ok(()) => Err(here),
+        Err(e) => {
+            if e.refusal.number() < refusal.number() {
+                later
+            } else {
+                Err(here)
+            }
+        }
     }
-    s
 }
 
-// Checks 8 of a part, 9 of the whole pool, 10, 21 and 20, of a pool with so many nodes and n games: the number of the first that refuses, or 0.
-pub fn check_settings(nodes: usize, shares: &[u64; MOST_GAMES], n: usize, c: Common) -> u8
-    requires { (0 < n) × (n ≤ 8) }
-    ensures { result ≡ settings_refusal nodes n (shares_of shares.now n) (common_of c) }
+// Checks 2 to 6 and 22 of n records, from the last down: the earliest that refuses one, and the lowest game whose record it refuses.
+pub fn earliest(bytes: &[u8], n: usize) -> Result<(), GameRefusal>
+    requires { (n ≤ 8) × (n * 21 ≤ length bytes.now) }
+    ensures { EarlyAt 0 (answers (refusal_at bytes.now) 0 n) (game_code result) (game_index result) }
 {
-    let s = summed(shares, n);
-    let stay = c.stay;
-    let checks = [
-        refusals::refuses(8, nodes / n < LEAST_NODES),
-        refusals::refuses(9, nodes > MOST_NODES),
-        refusals::refuses(10, c.rule > LAST_RULE),
-        refusals::refuses(10, c.interval < LEAST_INTERVAL),
-        refusals::refuses(10, c.interval > MOST_INTERVAL),
-        refusals::refuses(10, s.above),
-        refusals::refuses(10, c.allowance > MOST_BUDGET),
-        refusals::refuses(21, !stay::in_range(stay)),
-        refusals::refuses(20, s.total > c.allowance),
-    ];
-    refusals::first(&checks)
+    let mut found = Ok(());
+    for i in (0..n).rev() {
+        let start = i * RECORD_LENGTH;
+        let loaded = record::load(&bytes[start..start + RECORD_LENGTH]);
+        found = sooner(loaded, i, found);
+    }
+    found
+}
+
+// The sum of the shares of n games, if none of them is above the range.
+fn summed(shares: &[u64; MOST_GAMES], n: usize) -> Option<u64>
+    requires { n ≤ 8 }
+    ensures { result ≡ sum_within (shares_of shares.now n) }
+{
+    let mut total = 0;
+    for &share in &shares[..n] {
+        if share > MOST_BUDGET {
+            return None;
+        }
+        total += share;
+    }
+    Some(total)
+}
+
+// Checks 8 of a part, 9 of the whole pool, 10, 21 and 20, of a pool with so many nodes and n games.
+pub fn check_settings(
+    nodes: usize,
+    shares: &[u64; MOST_GAMES],
+    n: usize,
+    c: Common,
+) -> Result<(), Refusal>
+    requires { (0 < n) × (n ≤ 8) }
+    ensures { refusal_code result ≡ settings_refusal nodes n (shares_of shares.now n) (common_of c) }
+{
+    let sum = summed(shares, n);
+    refusals::first(&[
+        (nodes / n < LEAST_NODES, Refusal::NoNode),
+        (nodes > MOST_NODES, Refusal::ManyNodes),
+        (c.rule > LAST_RULE, Refusal::Range),
+        (c.interval < LEAST_INTERVAL, Refusal::Range),
+        (c.interval > MOST_INTERVAL, Refusal::Range),
+        (sum.is_none(), Refusal::Range),
+        (c.allowance > MOST_BUDGET, Refusal::Range),
+        (!stay::in_range(c.stay), Refusal::Margin),
+        (
+            sum.is_some_and(|total| total > c.allowance),
+            Refusal::Games,
+        ),
+    ])
 }
