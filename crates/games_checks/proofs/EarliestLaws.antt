@@ -71,8 +71,9 @@ module _ (i j : ℕ) (e : j ≡ suc i) (ns : List ℕ) (loaded : Result Game Ref
       some : game_code later ≡ 0 → ⊥
       some y = number_positive x.refusal (sym (ap game_code z) ∙ y)
 
-      pub sooner_kept : number x.refusal < number r → EarlyAt i (refusal_code loaded ∷ ns) (game_code later) (game_index later)
-      sooner_kept l = found _ _ (early_kept i j e ns _ _ h (number r) (number_positive r) some (omega (arith, ap game_code z)))
+      pub sooner_kept : number x.refusal < number r → EarlyAt i (refusal_code loaded ∷ ns) (number x.refusal) x.index
+      sooner_kept l =
+          found _ _ (subst (λ y. EarlyAt i (number r ∷ ns) (game_code y) (game_index y)) z (early_kept i j e ns _ _ h (number r) (number_positive r) some (omega (arith, ap game_code z))))
 
       pub sooner_here : number r ≤ number x.refusal → EarlyAt i (refusal_code loaded ∷ ns) (number r) i
       sooner_here l = found _ _ (early_sooner i j e ns _ _ h (number r) (number_positive r) some (omega (arith, ap game_code z)))

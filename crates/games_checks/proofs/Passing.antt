@@ -1,6 +1,7 @@
 -- The checks with the code's sum, and what they tell where they refuse nothing. Rests on Checks and Sums.
-use Rattle.std.specs.Prelude.{◌≡◌, refl, Bool, true, not, List, [], ◌∷◌, ℕ, ◌/◌, ◌%◌, ◌≤◌, ltb, length}
-use Rattle.std.proofs.Common.{sym, eqb-true}
+use Rattle.std.specs.Prelude.{◌≡◌, refl, Bool, true, not, Option, None, Some, List, [], ◌∷◌, ℕ, ◌/◌, ◌%◌, ◌≤◌, ltb, length}
+use Rattle.std.specs.Option.{is_some, unwrap_or}
+use Rattle.std.proofs.Common.{ap, sym, ◌∙◌, subst, true≢false, eqb-true}
 use Rattle.std.proofs.Math.Bool.{false}
 use Rattle.rules.specs.Rules.{any}
 use Rattle.rules.specs.Refusals.{refuses, first_refusal}
@@ -11,29 +12,50 @@ use Rattle.calls.specs.Calls.{last_rule}
 use Rattle.calls.proofs.Refusing.{passes_test}
 use Rattle.searches.specs.Searches.{pool_least, pool_most, interval_least, interval_most, budget_most}
 use Rattle.games_checks.specs.Checks.{games_least, games_most, games, number_refusal, Common, settings_refusal}
+use Rattle.games_checks.specs.Sums.{sum_within}
 
--- the checks with the sum that the code has: it counts only where no share is above the range
-pub settings_refuse : (capacity n : ℕ) (shares : List ℕ) (C : Common) (above over : Bool) → above ≡ any (ltb budget_most) shares
-    → (above ≡ false → over ≡ ltb C.allowance (total shares))
+-- THE SUM that the code has: there is none where a share is above the range
+none_true : (b : Bool) → false ≡ not b → b ≡ true
+none_true true e = refl
+none_true false e = absurd (true≢false (sym e))
+
+none_false : (b : Bool) → true ≡ not b → b ≡ false
+none_false true e = absurd (true≢false e)
+none_false false e = refl
+
+module _ (shares : List ℕ) (allowance : ℕ) (sum : Option ℕ) (none : Bool) (s : sum ≡ sum_within shares) (n : is_some sum ≡ not none) where
+  sum_tells : (b : Bool) → any (ltb budget_most) shares ≡ b
+      → (none ≡ any (ltb budget_most) shares) × (none ≡ false → ltb allowance (unwrap_or sum 0) ≡ ltb allowance (total shares))
+  sum_tells true e =
+      let q : sum ≡ None = s ∙ rw e refl in
+      let y : none ≡ true = none_true none (sym (ap is_some q) ∙ n) in
+      (y ∙ sym e, λ z. absurd (true≢false (sym y ∙ z)))
+  sum_tells false e =
+      let q : sum ≡ Some (total shares) = s ∙ rw e refl in
+      (none_false none (sym (ap is_some q) ∙ n) ∙ sym e, λ z. ap (λ x. ltb allowance (unwrap_or x 0)) q)
+
+-- the checks with it
+pub settings_refuse : (capacity n : ℕ) (shares : List ℕ) (C : Common) (sum : Option ℕ) (none : Bool) → sum ≡ sum_within shares → is_some sum ≡ not none
     → first_refusal (
     refuses 8 (ltb (capacity / n) pool_least)
     ∷ refuses 9 (ltb pool_most capacity)
     ∷ refuses 10 (ltb last_rule C.rule)
     ∷ refuses 10 (ltb C.interval interval_least)
     ∷ refuses 10 (ltb interval_most C.interval)
-    ∷ refuses 10 above
+    ∷ refuses 10 none
     ∷ refuses 10 (ltb budget_most C.allowance)
     ∷ refuses 21 (not (stay_in_range C.stay))
-    ∷ refuses 20 over
+    ∷ refuses 20 (ltb C.allowance (unwrap_or sum 0))
     ∷ []
     ) ≡ settings_refusal capacity n shares C
 unfolding settings_refusal
-settings_refuse capacity n shares C above over e s =
-    same_first _ _ _ (same_first _ _ _ (same_first _ _ _ (same_first _ _ _ (same_first _ _ _ (go above e s)))))
+settings_refuse capacity n shares C sum none s e =
+    let k = sum_tells shares C.allowance sum none s e (any (ltb budget_most) shares) refl in
+    same_first _ _ _ (same_first _ _ _ (same_first _ _ _ (same_first _ _ _ (same_first _ _ _ (go none k.0 k.1)))))
   where
-    go : (b : Bool) → b ≡ any (ltb budget_most) shares → (b ≡ false → over ≡ ltb C.allowance (total shares))
+    go : (b : Bool) → b ≡ any (ltb budget_most) shares → (b ≡ false → ltb C.allowance (unwrap_or sum 0) ≡ ltb C.allowance (total shares))
         → let margin = refuses 21 (not (stay_in_range C.stay)) in
-        first_refusal (refuses 10 b ∷ refuses 10 (ltb budget_most C.allowance) ∷ margin ∷ refuses 20 over ∷ [])
+        first_refusal (refuses 10 b ∷ refuses 10 (ltb budget_most C.allowance) ∷ margin ∷ refuses 20 (ltb C.allowance (unwrap_or sum 0)) ∷ [])
         ≡ first_refusal (refuses 10 (any (ltb budget_most) shares) ∷ refuses 10 (ltb budget_most C.allowance) ∷ margin ∷ refuses 20 (ltb C.allowance (total shares)) ∷ [])
     go true e s = rw (sym e) (unfold first_refusal in refl)
     go false e s = rw (sym e, s refl)

@@ -59,7 +59,6 @@ pub fn check_number(bytes: &[u8]) -> Result<(), Refusal>
     ])
 }
 
-#[tactic(auto, using(crate::proofs::EarliestLaws::sooner_passed, crate::proofs::EarliestLaws::sooner_alone, crate::proofs::EarliestLaws::sooner_kept, crate::proofs::EarliestLaws::sooner_here))]
 // Game i's refusal, if there is one, before those of the games after it.
 fn sooner(
     loaded: Result<Game, Refusal>,
@@ -133,9 +132,6 @@ pub fn check_settings(
         (sum.is_none(), Refusal::Range),
         (c.allowance > MOST_BUDGET, Refusal::Range),
         (!stay::in_range(c.stay), Refusal::Margin),
-        (
-            sum.is_some_and(|total| total > c.allowance),
-            Refusal::Games,
-        ),
+        (sum.unwrap_or(0) > c.allowance, Refusal::Games),
     ])
 }
