@@ -1,6 +1,7 @@
 -- Words put together from bytes, and the law of the cells taken from them. Rests on RecordWords and Parts.
 use Rattle.std.specs.Prelude.{◌≡◌, refl, List, ℕ, zero, suc, ◌+◌, ◌*◌, ◌-◌, ◌/◌, ◌%◌, ◌^◌, ◌<◌, ◌≤◌, get_or}
-use Rattle.std.proofs.Common.{ap, ap₂, sym, ◌∙◌, zero-add, ne_eqb, lt-ltb, le-ltb}
+use Rattle.std.proofs.Common.{ap, ap₂, sym, ◌∙◌, zero-add, add-zero, add-suc, add_assoc, ne_eqb, lt-ltb, le-ltb}
+use Rattle.std.proofs.Math.Nat.{pow-succ', pow-zero}
 use Rattle.std.proofs.Math.Decide.{dec_lt, ℕ_discrete}
 use native.Mathlib.Omega.{arith}
 use Rattle.rules.specs.Record.{bit_at, number}
@@ -8,6 +9,14 @@ use Rattle.rules.proofs.Bits.{bit, number_of_bits}
 use Rattle.rules.proofs.Roundtrip.{load_bits}
 use Rattle.cells.specs.RecordWords.{together, words_of, cell_held, CellsFromWords}
 use Rattle.cells.proofs.Parts.{number_more, number_front, number_back, number_part}
+
+-- n bytes and j after them
+pub together_more : (bs : List ℕ) (k n j : ℕ) → together bs k (n + j) ≡ together bs k n * 256 ^ j + together bs (k + n) j
+together_more bs k n zero = rw (add-zero n, pow-zero 256) (omega arith)
+together_more bs k n (suc j) = rw (add-suc n j, together_more bs k n j, pow-succ' 256 j, add_assoc) (omega arith)
+
+pub two_together : (bs : List ℕ) (k : ℕ) → get_or bs k 0 * 256 + get_or bs (k + 1) 0 ≡ together bs k 2
+two_together bs k = rw (add-zero k) (omega arith)
 
 module _ (bs : List ℕ) where
   -- A byte is the number that its eight bits make.

@@ -1,4 +1,5 @@
 pub mod Buffers
+pub mod Chunks
 pub mod Finding
 pub mod Marks
 pub mod Placing

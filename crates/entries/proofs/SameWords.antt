@@ -1,9 +1,10 @@
 -- Laws of specs/SameWords.antt. Records compared by three words, from bytes 0, 8 and 13 on: they are the same exactly if the words are. Rests on Entries, Finding and Scanning.
-use Rattle.std.specs.Prelude.{◌≡◌, refl, Bool, true, false, List, ℕ, zero, suc, ◌+◌, ◌*◌, ◌-◌, ◌^◌, ◌≤◌, ◌<◌, eqb, length, drop, get_or}
-use Rattle.std.proofs.Common.{sym, ap, ◌∙◌, zero-add, add-zero, add-suc, suc-add, arith, eq-eqb, eqb-true, length-drop, ext_get_or, get_or-take, get_or-drop, length-take-le}
+use Rattle.std.specs.Prelude.{◌≡◌, refl, Bool, true, false, List, ℕ, zero, suc, ◌+◌, ◌*◌, ◌-◌, ◌^◌, ◌≤◌, ◌<◌, eqb, length, take, drop, get_or}
+use Rattle.std.proofs.Common.{sym, ap, ap₂, ◌∙◌, zero-add, add-zero, add-one, add-suc, suc-add, arith, eq-eqb, eqb-true, length-drop, ext_get_or, get_or-take, get_or-drop, length-take-le}
 use Rattle.std.proofs.lemmas.Bool.{false≢true}
 use Rattle.std.proofs.Math.Nat.{pow-succ', pow-zero}
 use Rattle.std.proofs.Math.Decide.{dec_lt}
+use Rattle.std.specs.Int.{w64, from_le_bytes, sum_through, byte_worth}
 use Rattle.entries.specs.Entries.{same_bytes}
 use Rattle.rules.proofs.Tests.{same_equal, same_self}
 use Rattle.entries.specs.Scanning.{record_at}
@@ -19,6 +20,23 @@ little_endian_more bs k (suc n) j = rw (suc-add n j, little_endian_more bs (suc 
 
 pub little_endian_two : (bs : List ℕ) (k : ℕ) → get_or bs k 0 + get_or bs (k + 1) 0 * 256 ≡ little_endian bs k 2
 little_endian_two bs k = let e : k + 1 ≡ suc k = omega arith in rw e (omega arith)
+
+-- the library's number of eight bytes is the word that begins at the first
+pub library_word : (bs ys : List ℕ) (k : ℕ) → k + 8 ≤ length bs → ys ≡ take 8 (take (length bs - k) (drop k bs)) → from_le_bytes w64 ys ≡ little_endian bs k 8
+library_word bs ys k h e = sums 7 (λ i l. same i l)
+  where
+    same : (i : ℕ) → i ≤ 7 → get_or ys i 0 ≡ get_or bs (k + i) 0
+    same i l =
+        let a : i < 8 = omega arith in
+        let b : i < length bs - k = omega arith in
+        rw (e, get_or-take 8 (take (length bs - k) (drop k bs)) i 0 a, get_or-take (length bs - k) (drop k bs) i 0 b, get_or-drop)
+
+    sums : (n : ℕ) → ((i : ℕ) → i ≤ n → get_or ys i 0 ≡ get_or bs (k + i) 0) → sum_through (λ i. byte_worth i (get_or ys i 0)) n ≡ little_endian bs k (suc n)
+    sums zero f = omega (arith, rw (add-zero k) at (f 0 (omega arith)))
+    sums (suc n) f =
+        let more : little_endian bs k (suc (suc n)) ≡ little_endian bs k (suc n) + get_or bs (k + suc n) 0 * 256 ^ suc n =
+        ap (little_endian bs k) (sym (add-one (suc n))) ∙ little_endian_more bs k (suc n) 1 ∙ ap (λ b. little_endian bs k (suc n) + b * 256 ^ suc n) (add-zero (get_or bs (k + suc n) 0)) in
+        ap₂ (λ a b. a + b * 256 ^ suc n) (sums n (λ i l. f i (omega arith))) (f (suc n) (omega arith)) ∙ sym more
 
 module _ (bs cs : List ℕ) where
   -- alike bytes make the same number, and only they do

@@ -1,6 +1,6 @@
 -- The entries of a book of verdicts (MANUAL, Book of verdicts): what their 22 bytes say, who may read them, which of them answers a caller for a pair of a record
 -- and a rule, and buffers with entries at the front and with a mark set. Rests on the library's numbers and lists, on the rules for lists of the same bytes, and on the code's enum of callers.
-use Rattle.std.specs.Prelude.{Bool, true, false, cond, ◌&&◌, ◌||◌, List, [], ◌∷◌, ◌++◌, ℕ, zero, suc, ◌+◌, ◌*◌, ◌/◌, ◌%◌, eqb, length, get_or, take, drop, set}
+use Rattle.std.specs.Prelude.{Bool, true, false, cond, ◌&&◌, ◌||◌, List, [], ◌∷◌, ◌++◌, ℕ, zero, suc, ◌+◌, ◌*◌, ◌/◌, ◌%◌, eqb, length, get_or, take, drop, set, Option, Some, None}
 pub use Rattle.rules.specs.Rules.{same_bytes}
 use Rattle.entries.specs.declared.Caller.{Caller}
 use Rattle.entries.specs.declared.Caller.TheVariants.{Arbiter, Trainer}
@@ -55,6 +55,15 @@ with_entries es buffer = all_bytes es ++ drop (length es * 22) buffer
 -- its last byte holds the rule.
 abbrev pub has_verdict : (last : ℕ) → Bool
 has_verdict last = eqb (verdict_bits last) 1 || eqb (verdict_bits last) 2
+
+-- The verdict as the code has it, true for True and false for False; and its number, 0 where there is none.
+abbrev pub verdict_in : (last : ℕ) → Option Bool
+verdict_in last = cond (eqb (verdict_bits last) 1) (Some true) (cond (eqb (verdict_bits last) 2) (Some false) None)
+
+abbrev pub found_number : Option Bool → ℕ
+found_number None = 0
+found_number (Some true) = 1
+found_number (Some false) = 2
 
 unfoldable pub holds_rule : (rule last : ℕ) → Bool
 holds_rule rule last = eqb (rule_bits last) rule && has_verdict last

@@ -1,26 +1,31 @@
--- `entries::first` meets its contract: the first entry that answers lies after those passed; the measure is the number of bytes left. Assumes nothing.
-use mathlib.Core.Path.{sym, ◌∙◌}
-use native.Mathlib.Omega.{arith}
-use Rattle.entries.proofs.Scanning.{scanning_start, scanning_found, scanning_next, scanning_end}
+-- `entries::first` meets its contract: the first chunk that answers is the first entry that does. Assumes nothing.
+use Rattle.std.proofs.Common.{◌≡◌, ◌∙◌, arith, rules}
+use Rattle.std.proofs.lemmas.Iterator.{YieldsList-from_slice}
+use Rattle.std.proofs.lemmas.Iterator.Search.{position_from_yields_List}
+use Rattle.std.specs.Simd.{first_chunks}
+use Rattle.entries.specs.Entries.{answers, entry_of}
+use Rattle.entries.proofs.Chunks.{first_placed}
 use Rattle.entries.proofs.first.Goals as goal
 
-pub loop-at-init : goal.loop-at-init
-loop-at-init c = scanning_start _ _ _
-
-pub answers_at-requires : goal.answers_at-requires
-answers_at-requires c =
-    (c.requires.0, omega (arith, c.requires.1, c.loop-at.invariant.at_is, c.loop-at-test.true))
-
-pub returns-then-answers_at : goal.returns-then-answers_at
-returns-then-answers_at c =
-    scanning_found _ _ _ _ c.loop-at.invariant c.loop-at-test.true (sym c.answers_at.ensures ∙ c.if-answers_at.true)
-
-pub overflow_add-at : goal.overflow_add-at
-overflow_add-at c = omega (arith, c.loop-at.invariant.at_is, c.loop-at-test.true)
-
-pub loop-at-preserved : goal.loop-at-preserved
-loop-at-preserved c =
-    scanning_next _ _ _ _ c.loop-at.invariant c.loop-at-test.true (sym c.answers_at.ensures ∙ c.if-answers_at.false)
+pub returns-in_err-i : goal.returns-in_err-i
+returns-in_err-i c =
+    let who = c.args.who in
+    let rule = c.args.rule in
+    let bytes = c.unwrap-record.result.now in
+    let whole : bytes ≡ c.args.bytes.now = (rw c.unwrap-record.ensures at c.as_array.ensures.cases).same in
+    let found = position_from_yields_List (λ e. answers who bytes rule (entry_of e)) _ _ _ c.position.ensures.ran
+    (YieldsList-from_slice (first_chunks 22 c.args.count c.args.book.now) (c.iter.ensures.rest ∙ c.used.ensures)) (λ e b q h. (search rules, search rules)) in
+    let m = first_placed (answers who bytes rule) c.args.count c.args.book.now c.position.result found in
+    rw c.from_residual.ensures (rw (c.in_err-i.was, whole) at m)
 
 pub returns : goal.returns
-returns c = scanning_end _ _ _ _ c.loop-at.invariant c.loop-at-test.false
+returns c =
+    let who = c.args.who in
+    let rule = c.args.rule in
+    let bytes = c.unwrap-record.result.now in
+    let whole : bytes ≡ c.args.bytes.now = (rw c.unwrap-record.ensures at c.as_array.ensures.cases).same in
+    let found = position_from_yields_List (λ e. answers who bytes rule (entry_of e)) _ _ _ c.position.ensures.ran
+    (YieldsList-from_slice (first_chunks 22 c.args.count c.args.book.now) (c.iter.ensures.rest ∙ c.used.ensures)) (λ e b q h. (search rules, search rules)) in
+    let m = first_placed (answers who bytes rule) c.args.count c.args.book.now c.position.result found in
+    let q = rw (c.in_ok-i.was, whole) at m in
+    (omega (arith, q.0, q.1), omega (arith, q.1))
