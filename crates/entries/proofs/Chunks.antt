@@ -1,12 +1,12 @@
 -- A book's entries as the code has them: the first so many arrays of 22 bytes; the first of them that a test picks; and its verdict. Rests on Entries, Finding and Placing.
-use Rattle.std.specs.Prelude.{◌≡◌, refl, Bool, true, false, cond, not, ◌||◌, List, [], ◌∷◌, ◌⊎◌, Option, Some, None, MatchOption, ℕ, zero, suc, ◌+◌, ◌*◌, ◌/◌, ◌%◌, ◌≤◌, ◌<◌, eqb, ltb, length, take, drop, get_or}
-use Rattle.std.proofs.Common.{sym, ap, ◌∙◌, inl, inr, arith, lt-ltb, le-ltb, get_or-take, length-take-le, length-drop}
+use Rattle.std.specs.Prelude.{◌≡◌, refl, Bool, true, false, cond, not, ◌||◌, List, [], ◌∷◌, ◌⊎◌, Option, Some, None, MatchOption, ℕ, zero, suc, ◌+◌, ◌*◌, ◌/◌, ◌%◌, ◌≤◌, ◌<◌, eqb, ltb, length, take, drop}
+use Rattle.std.proofs.Common.{sym, ap, ◌∙◌, inl, inr, arith, lt-ltb, le-ltb, get_or-take}
 use Rattle.std.proofs.lemmas.List.{drop-take, take-take}
 use Rattle.std.proofs.Math.Decide.{dec_lt, ℕ_discrete}
 use Rattle.std.specs.Option.{is_some}
 use Rattle.std.specs.List.{position_or_len}
 use Rattle.std.specs.Simd.{first_chunks}
-use Rattle.entries.specs.Entries.{Entry, entry_of, entries, verdict_bits, has_verdict, verdict_in, found_number, answers, find, place}
+use Rattle.entries.specs.Entries.{Entry, entry_of, entries, verdict_bits, has_verdict, verdict_in, found_number, find, place}
 use Rattle.entries.proofs.Buffers.{All, length_entries}
 use Rattle.entries.proofs.Finding.{IsVerdict, find_of}
 use Rattle.entries.specs.declared.Caller.{Caller}

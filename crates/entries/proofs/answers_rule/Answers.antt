@@ -1,7 +1,7 @@
 -- `entries::answers_rule` meets its contract: the caller may read, or the rule is not held. Assumes nothing.
 use Rattle.std.proofs.Common.{sym, ◌∙◌}
 use Rattle.entries.specs.Entries.{may_read}
-use Rattle.entries.proofs.Scanning.{if_read, none_read}
+use Rattle.entries.proofs.Scanning.{none_read}
 use Rattle.entries.proofs.answers_rule.Goals as goal
 
 pub returns-else-holds_rule : goal.returns-else-holds_rule
