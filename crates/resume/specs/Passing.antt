@@ -12,7 +12,6 @@ use Rattle.pn.specs.Results.{machine_settings, result_of}
 use Rattle.pn.specs.Going.{Countable, Ranges, stopped_by, with_budget, cause_spent, spent_cause, settings_long}
 use Rattle.pn.specs.declared.Settings.{Settings}
 use Rattle.pn.specs.declared.SearchResult.{SearchResult}
-use Rattle.pn.specs.declared.Cause.{Cause}
 use Rattle.pn.specs.declared.Cause.TheVariants.{Budget}
 use Rattle.resume.specs.Lone.{lone, lone_spent}
 use Rattle.resume.specs.Keeping.{Stopped, Resumable}
