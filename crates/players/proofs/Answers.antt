@@ -10,8 +10,6 @@ use Rattle.players.specs.Players as players
 use Rattle.players.specs.Players.{budget_of, SimulateOutcome, simulate_outcome}
 use Rattle.players.specs.declared.Players.{Players}
 use Rattle.players.specs.declared.Report.{Report}
-use Rattle.players.specs.declared.Simulated.{Simulated}
-use Rattle.players.specs.declared.Simulated.TheVariants.{Reported, Refused}
 use Rattle.players.specs.Answers.{settings_for}
 
 pub settings_x : (c : Players) (n : ℕ) → n ≡ 0 → settings_for c X ≡ settings_for c (player_of n)

@@ -7,7 +7,7 @@ use Rattle.rules.specs.Rules.Player.{X, O}
 use Rattle.rules.specs.Record.{position_of, Accepted}
 use Rattle.rules.proofs.Checks.{loads, loads_accepted}
 use Rattle.rules.specs.Refusals.{refuses, first_refusal}
-use Rattle.rules.proofs.RefusalLaws.{none_refuses}
+use Rattle.rules.proofs.RefusalLaws.{none_refuses, first_refuses, rest_refuses}
 use Rattle.game.specs.Words.{Holds}
 use Rattle.matches.specs.Matches.{report, play_match}
 use Rattle.calls.proofs.Refusing.{passes_test, refused_by}
@@ -23,16 +23,16 @@ use Rattle.players.specs.Matching.{MatchPlayed}
 use Rattle.players.specs.declared.Players.{Players}
 use Rattle.players.specs.declared.Report.{Report}
 
--- the checks, each with the number that the code has for it
-pub accept_code : (bytes : List ℕ) (capacity : ℕ) (C : players.Players) (games : ℕ) {budget search_code none_code many_code n : ℕ}
-    → budget ≡ larger C
-    → search_code ≡ search_refusal bytes capacity 2 (with_budget C budget)
-    → none_code ≡ refuses 23 (nat_lt games match_least)
-    → many_code ≡ refuses 23 (nat_lt match_most games)
-    → n ≡ first_refusal (search_code ∷ none_code ∷ many_code ∷ [])
-    → n ≡ simulate_refusal bytes capacity C games
-unfolding simulate_refusal
-accept_code bytes capacity C games b s l m e = rw (e, s, l, m, b)
+-- search's checks, and 23 after them
+module _ (bytes : List ℕ) (capacity : ℕ) (C : players.Players) (games : ℕ) {budget : ℕ} (is : budget ≡ larger C) where
+  pub accept_search : (n : ℕ) → n ≡ search_refusal bytes capacity 2 (with_budget C budget) → (n ≡ 0 → ⊥) → n ≡ simulate_refusal bytes capacity C games
+  unfolding simulate_refusal
+  accept_search n e z = rw (← is, ← e) (sym (first_refuses n _ z))
+
+  pub accept_games : search_refusal bytes capacity 2 (with_budget C budget) ≡ 0 → (n : ℕ)
+      → n ≡ first_refusal (refuses 23 (nat_lt games match_least) ∷ refuses 23 (nat_lt match_most games) ∷ []) → n ≡ simulate_refusal bytes capacity C games
+  unfolding simulate_refusal
+  accept_games passed n e = rw (← is) (e ∙ sym (rest_refuses _ _ passed))
 
 -- a call that passes its checks
 pub record Passed (bytes : List ℕ) (words : ℕ) (C : players.Players) (games : ℕ) : Type 0 where

@@ -1,10 +1,11 @@
 -- Laws of specs/Turning.antt. A turn as the code takes it: the legal moves in an array, looking through them one after the other, and the move played or drawn. Rests on the laws of turns, on Players and on what
 -- pn's search asks for and comes to.
-use Rattle.std.specs.Prelude.{◌≡◌, ℕ, zero, suc, ◌+◌, ◌*◌, ◌<◌, ◌≤◌, Bool, true, false, List, [], ◌∷◌, ◌++◌, length, get_or, drop, slice_index, slice_index_or, refl}
+use Rattle.std.specs.Prelude.{◌≡◌, ℕ, zero, suc, ◌+◌, ◌*◌, ◌<◌, ◌≤◌, Bool, true, false, List, [], ◌∷◌, ◌++◌, length, get_or, drop, take, slice_index, slice_index_or, refl, Option, Some, None}
+use Rattle.std.proofs.lemmas.Option.{none-some}
 use Rattle.std.proofs.Math.Path.{ap}
 use Rattle.std.proofs.Common.{sym, subst, ◌∙◌, true≢false, add-one, arith, drop-cons}
 use Rattle.std.proofs.lemmas.Bool.{false≢true}
-use Rattle.std.proofs.Math.Seq.{drop-length}
+use Rattle.std.proofs.Math.Seq.{drop-length, take-append_seam}
 use Rattle.rules.specs.Rules.{Player, Position, game_state, legal_moves, move_error, play}
 use Rattle.rules.specs.Record.{Accepted, player_of}
 use Rattle.rules.proofs.LegalMoves.{in_legal, unfinished_some, moves_few}
@@ -53,7 +54,7 @@ module _ {g ms : List ℕ} {n : ℕ} {s : Settings} {w₀ w : List ℕ} {i expan
   looking_movable = let f = l.from.looks in (l.from.pos, f.holds, listed_legal _ ms n f.listed i h)
 
 pub looking_none : {g ms : List ℕ} {n : ℕ} {s : Settings} {w₀ w : List ℕ} {i expanded : ℕ} → Looking g ms n s w₀ w i expanded → n ≤ i
-    → Looked g ms n s w₀ w (record { wins = false; place = 0; expanded = expanded })
+    → Looked g ms n s w₀ w (record { winner = None; expanded = expanded })
 unfolding look
 looking_none {n = n} {i = i} l h = record {
   past = l.past;
@@ -62,27 +63,29 @@ looking_none {n = n} {i = i} l h = record {
       let nothing : drop i (legal_moves p) ≡ [] = rw (all, drop-length (legal_moves p)) in
       let t = rw nothing at (l.each c p k).total in
       record {
-        wins = λ q. absurd (false≢true q);
+        wins = λ place q. absurd (none-some _ q);
         none = λ q. rw nothing at (l.each c p k).win;
         expanded = omega (arith, t);
       };
 }
 
 -- the legal moves, as they were written
-front : (xs ys : List ℕ) (i d e : ℕ) → i < length xs → slice_index_or (xs ++ ys) i d ≡ slice_index_or xs i e
-front [] ys i d e h = absurd (omega arith)
-front (x ∷ xs) ys zero d e h = refl
-front (x ∷ xs) ys (suc i) d e h = front xs ys i d e (omega arith)
+no_default : (xs : List ℕ) (i d e : ℕ) → i < length xs → slice_index_or xs i d ≡ slice_index_or xs i e
+no_default [] i d e h = absurd (omega arith)
+no_default (x ∷ xs) zero d e h = refl
+no_default (x ∷ xs) (suc i) d e h = no_default xs i d e (omega arith)
 
-pub listed : (p : Position) (out ms : List ℕ) (n : ℕ) → Written (legal_moves p) out ms n → Listed p ms n
-listed p out ms n w = record {
-  count = w.count;
-  each = λ i h. rw w.left (front (legal_moves p) (drop n out) i 0 255 (omega (arith, w.count)));
-}
+all_listed : (p : Position) → Listed p (legal_moves p) (length (legal_moves p))
+all_listed p = record { count = refl; each = λ i h. no_default (legal_moves p) i 0 255 h }
+
+pub listed : (p : Position) (out ms : List ℕ) (n : ℕ) → Written (legal_moves p) out ms n → Listed p (take n ms) (length (take n ms))
+listed p out ms n w =
+    let front_is : take n ms ≡ legal_moves p = rw (w.left, w.count) (take-append_seam (legal_moves p) (drop (length (legal_moves p)) out)) in
+    rw front_is (all_listed p)
 
 -- the moves are written and the settings chosen, for whichever position g holds
 pub to_look : (c : Players) (g out ms : List ℕ) (n side : ℕ) (s : Settings) → ((p : Position) → Holds p g 0 → Written (legal_moves p) out ms n)
-    → side ≡ slice_index g (0 + 22) → s ≡ settings_for c (player_of side) → (p : Position) → Holds p g 0 → Accepted p → Looks c p g ms n s
+    → side ≡ slice_index g (0 + 22) → s ≡ settings_for c (player_of side) → (p : Position) → Holds p g 0 → Accepted p → Looks c p g (take n ms) (length (take n ms)) s
 to_look c g out ms n side s wrote es et p h a = record {
   holds = h;
   accepted = a;
@@ -95,13 +98,13 @@ pub turnable_some : (p : Position) → Accepted p → game_state p ≡ 0 → (ms
 turnable_some p a e ms n l = omega (arith, l.count, some (legal_moves p) (unfinished_some p a e).1)
 
 module _ (S : Searcher) (p : Position) (ms : List ℕ) (n state : ℕ) (r : Look) (l : Listed p ms n) (k : LookIs S p r) where
-  pub turned_wins : r.wins ≡ true → TurnIs (turn S p state) (slice_index ms r.place) state r.expanded
+  pub turned_wins : (place : ℕ) → r.winner ≡ Some place → TurnIs (turn S p state) (slice_index ms place) state r.expanded
   unfolding turn move_or_draw
-  turned_wins e =
-      let f = k.wins e in
-      rw f.1 (record { move = l.each r.place (omega (arith, f.0, l.count)); state_is = refl; total = k.expanded })
+  turned_wins place e =
+      let f = k.wins place e in
+      rw f.1 (record { move = l.each place (omega (arith, f.0, l.count)); state_is = refl; total = k.expanded })
 
-  pub turned_drawn : r.wins ≡ false → (next place : ℕ) → next ≡ next_state state → place ≡ drawn_place next n → place < n → TurnIs (turn S p state) (slice_index ms place) next r.expanded
+  pub turned_drawn : r.winner ≡ None → (next place : ℕ) → next ≡ next_state state → place ≡ drawn_place next n → place < n → TurnIs (turn S p state) (slice_index ms place) next r.expanded
   unfolding turn move_or_draw
   turned_drawn e next place en ep h =
       let there : place ≡ drawn_place (next_state state) (length (legal_moves p)) = rw (ep, en, l.count) in

@@ -1,5 +1,7 @@
 -- What the code's settings and its answer say. Rests on Players.
-use Rattle.std.specs.Prelude.{◌≡◌, ℕ, zero, suc, ◌≢◌, refl}
+use Rattle.std.specs.Prelude.{◌≡◌, ℕ, zero, suc, ◌≢◌, refl, Result, Ok, Err}
+use Rattle.refusals.specs.Numbers.{number}
+use Rattle.refusals.specs.declared.Refusal.{Refusal}
 use Rattle.rules.specs.Rules.{Player}
 use Rattle.rules.specs.Rules.Player.{X, O}
 use Rattle.rules.specs.Record.{player_of}
@@ -10,8 +12,6 @@ use Rattle.players.specs.Players as players
 use Rattle.players.specs.Players.{budget_of, SimulateOutcome, simulate_outcome}
 use Rattle.players.specs.declared.Players.{Players}
 use Rattle.players.specs.declared.Report.{Report}
-use Rattle.players.specs.declared.Simulated.{Simulated}
-use Rattle.players.specs.declared.Simulated.TheVariants.{Reported, Refused}
 
 -- What both players are given, and the settings of a side's searches.
 abbrev pub players_of : Players → players.Players
@@ -24,6 +24,6 @@ settings_for c side = record { rule = 2; limit = c.limit; budget = budget_of (pl
 abbrev pub report_of : Report → matches.Report
 report_of r = report r.x_wins r.o_wins r.draws r.expanded
 
-abbrev pub simulated : Simulated → SimulateOutcome
-simulated (Reported r) = simulate_outcome 0 0 (report_of r)
-simulated (Refused n) = simulate_outcome n 0 (report 0 0 0 0)
+abbrev pub simulated : Result Report Refusal → SimulateOutcome
+simulated (Ok r) = simulate_outcome 0 0 (report_of r)
+simulated (Err e) = simulate_outcome (number e) 0 (report 0 0 0 0)

@@ -1,6 +1,7 @@
 -- A turn as the code takes it: the legal moves in an array, looking through them one after the other, and the move played or drawn. Rests on the laws of turns, on Players and on what
 -- pn's search asks for and comes to.
-use Rattle.std.specs.Prelude.{◌≡◌, ℕ, zero, suc, ◌+◌, ◌*◌, ◌<◌, ◌≤◌, Bool, true, false, List, [], ◌∷◌, ◌++◌, length, get_or, drop, slice_index, slice_index_or, refl}
+use Rattle.std.specs.Prelude.{◌≡◌, ℕ, zero, suc, ◌+◌, ◌*◌, ◌<◌, ◌≤◌, Bool, true, false, List, [], ◌∷◌, ◌++◌, length, get_or, drop, slice_index, slice_index_or, refl, Option, Some, None}
+use Rattle.std.proofs.lemmas.Option.{none-some, same_Some}
 use Rattle.std.proofs.Math.Path.{ap}
 use Rattle.std.proofs.Common.{sym, subst, ◌∙◌, true≢false, add-one, arith, drop-cons}
 use Rattle.std.proofs.lemmas.Bool.{false≢true}
@@ -98,8 +99,8 @@ pub record Lookable (g ms : List ℕ) (n : ℕ) (w : List ℕ) (s : Settings) : 
 
 -- what it comes to
 pub record LookIs (S : Searcher) (p : Position) (r : Look) : Type 0 where
-  pub wins : r.wins ≡ true → (r.place < length (legal_moves p)) × ((look S p (legal_moves p)).win ≡ WinsBy (slice_index_or (legal_moves p) r.place 255))
-  pub none : r.wins ≡ false → (look S p (legal_moves p)).win ≡ NoWin
+  pub wins : (place : ℕ) → r.winner ≡ Some place → (place < length (legal_moves p)) × ((look S p (legal_moves p)).win ≡ WinsBy (slice_index_or (legal_moves p) place 255))
+  pub none : r.winner ≡ None → (look S p (legal_moves p)).win ≡ NoWin
   pub expanded : r.expanded ≡ (look S p (legal_moves p)).expanded
 
 pub record Looked (g ms : List ℕ) (n : ℕ) (s : Settings) (w v : List ℕ) (r : Look) : Type 0 where
@@ -192,12 +193,14 @@ module _ {g ms : List ℕ} {n : ℕ} {s : Settings} {w₀ w : List ℕ} {i expan
       past_all : Beyond w₀ v
       past_all = let f = l.from in let q = reached f.players f.pos f.looks in beyond_trans w₀ w v l.long l.past (found (play f.pos m) q.0 q.1).past
 
-      pub looking_wins : is_false_verdict (verdict r.verdict) ≡ true → Looked g ms n s w₀ v (record { wins = true; place = i; expanded = expanded + r.expanded })
+      pub looking_wins : is_false_verdict (verdict r.verdict) ≡ true → Looked g ms n s w₀ v (record { winner = Some i; expanded = expanded + r.expanded })
       looking_wins e = record {
         past = past_all;
         each = λ c p k. record {
-          wins = λ q. (omega (arith, h, k.listed.count), (l.each c p k).win ∙ ap (λ (x : matches.Look). x.win) (look_false c p k e));
-          none = λ q. absurd (true≢false q);
+          wins = λ place q.
+              subst (λ (j : ℕ). (j < length (legal_moves p)) × ((look (searcher (length w₀) (players_of c)) p (legal_moves p)).win ≡ WinsBy (slice_index_or (legal_moves p) j 255)))
+              (same_Some _ _ q) (omega (arith, h, k.listed.count), (l.each c p k).win ∙ ap (λ (x : matches.Look). x.win) (look_false c p k e));
+          none = λ q. absurd (none-some _ (sym q));
           expanded = sym ((l.each c p k).total ∙ ap (λ (x : matches.Look). expanded + x.expanded) (look_false c p k e));
         };
       }

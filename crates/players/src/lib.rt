@@ -2,10 +2,10 @@
 
 #![tactic(auto)]
 
-ghost use Rattle.std.specs.Prelude.{◌≡◌, ◌<◌, ◌≤◌, length, ◌==◌};
+ghost use Rattle.std.specs.Prelude.{◌≡◌, ◌<◌, ◌≤◌, length, ◌==◌, IfOk};
 ghost use Rattle.rules.specs.Rules.{Position, game_state, play, move_error};
 ghost use Rattle.rules.specs.Record.{position_of, player_of};
-ghost use Rattle.game.specs.Lines.{line_table};
+ghost use Rattle.refusals.specs.Numbers.{refusal_code};
 ghost use Rattle.game.specs.Words.{Holds, Held};
 ghost use Rattle.game.specs.Numbers.{state_number};
 ghost use Rattle.game.specs.Moves.{Movable};
@@ -18,11 +18,10 @@ ghost use Rattle.players.specs.Turning.{Lookable, Looked, Turnable, Turned, Read
 ghost use Rattle.players.specs.Gaming.{GamePlayed};
 ghost use Rattle.players.specs.Matching.{Countable, Counts, MatchPlayed};
 
-use calls::refusals;
 use game::{Game, GameState, Move, Player};
 use pn::Settings;
 use prove::Evaluation;
-use record::Loaded;
+use refusals::Refusal;
 use searches::SearchLimits;
 use stay::Stay;
 
@@ -54,76 +53,57 @@ pub struct Players {
 fn settings_for(c: Players, side: usize) -> Settings
     ensures { result ≡ settings_for c (player_of side) }
 {
-    let stay = c.stay;
     Settings {
         rule: RULE,
         limit: c.limit,
         budget: if side == 0 { c.x_budget } else { c.o_budget },
         interval: c.interval,
-        stay,
+        stay: c.stay,
     }
 }
 
 // The position after a legal move.
-fn after(table: &[u8; 512], pos: Game, m: Move) -> Game
-    requires { (table.now ≡ line_table) × Movable pos.words 0 m.0 }
+fn after(pos: Game, m: Move) -> Game
+    requires { Movable pos.words 0 m.0 }
     ensures { (p : Position) → Holds p pos.words 0 → move_error p m.0 ≡ 0 → Holds (play p m.0) result.words 0 }
 {
-    let mut words = pos.words;
-    game::apply_move(table, &mut words, 0, m);
-    Game { words }
+    let mut next = pos;
+    game::apply_move(&mut next.words, 0, m);
+    next
 }
 
 // Whether a search was answered False.
 fn is_false(v: Evaluation) -> bool
     ensures { result ≡ is_false_verdict (verdict v) }
 {
-    match v {
-        Evaluation::True => false,
-        Evaluation::False => true,
-        Evaluation::Unknown => false,
-    }
+    matches!(v, Evaluation::False)
 }
 
-// Whether a move wins; its place among the legal moves; and what was expanded to find out.
+// The place of the first winning move among the legal moves, if there is one; and what was expanded to find out.
 #[derive(Clone, Copy)]
 pub struct Look {
-    pub wins: bool,
-    pub place: usize,
+    pub winner: Option<usize>,
     pub expanded: u64,
 }
 
-// Looks for a win among the n legal moves of a position.
-fn look_for_win(
-    table: &[u8; 512],
-    words: &mut [u32],
-    pos: Game,
-    moves: &[u8; MOVES],
-    n: usize,
-    s: Settings,
-) -> Look
-    requires { (table.now ≡ line_table) × Lookable pos.words moves.now n words.old s }
-    ensures { Looked pos.words moves.now n s words.old words.new result }
+// Looks for a win among the legal moves of a position.
+fn look_for_win(words: &mut [u32], pos: Game, moves: &[u8], s: Settings) -> Look
+    requires { Lookable pos.words moves.now (length moves.now) words.old s }
+    ensures { Looked pos.words moves.now (length moves.now) s words.old words.new result }
 {
     let mut expanded: u64 = 0;
-    let mut i: usize = 0;
-    while i < n {
-        let next = after(table, pos, Move(moves[i]));
-        let r = pn::search(words, next, s);
+    for place in 0..moves.len() {
+        let r = pn::search(words, after(pos, Move(moves[place])), s);
         expanded += r.expanded;
-        let verdict = r.verdict;
-        if is_false(verdict) {
+        if is_false(r.verdict) {
             return Look {
-                wins: true,
-                place: i,
+                winner: Some(place),
                 expanded,
             };
         }
-        i += 1;
     }
     Look {
-        wins: false,
-        place: 0,
+        winner: None,
         expanded,
     }
 }
@@ -132,7 +112,7 @@ fn look_for_win(
 fn next_state(state: u64) -> u64
     ensures { result ≡ next_state state }
 {
-    std::num::wrapping_add_u64(state, STATE_STEP)
+    state.wrapping_add(STATE_STEP)
 }
 
 // The place of the move drawn, of n: the upper 32 bits of the state, modulo n.
@@ -152,39 +132,37 @@ pub struct Turn {
 }
 
 // The turn of a position in play.
-fn take_turn(table: &[u8; 512], words: &mut [u32], pos: Game, c: Players, state: u64) -> Turn
-    requires { (table.now ≡ line_table) × Turnable pos.words words.old c }
+fn take_turn(words: &mut [u32], pos: Game, c: Players, state: u64) -> Turn
+    requires { Turnable pos.words words.old c }
     ensures { Turned pos.words c state words.old words.new result }
 {
-    let cells = pos.words;
-    let mut moves: [u8; MOVES] = [0; MOVES];
-    let n = calls::write_moves(table, &cells, &mut moves);
-    let s = settings_for(c, game::side_to_move(&cells, 0));
-    let found = look_for_win(table, words, pos, &moves, n, s);
-    if found.wins {
-        let place = found.place;
+    let mut moves = [0u8; MOVES];
+    let n = calls::write_moves(&pos.words, &mut moves);
+    let legal = &moves[..n];
+    let s = settings_for(c, game::side_to_move(&pos.words, 0));
+    let look = look_for_win(words, pos, legal, s);
+    if let Some(place) = look.winner {
         return Turn {
-            m: Move(moves[place]),
+            m: Move(legal[place]),
             state,
-            expanded: found.expanded,
+            expanded: look.expanded,
         };
     }
     let next = next_state(state);
-    let place = drawn_place(next, n);
+    let place = drawn_place(next, legal.len());
     Turn {
-        m: Move(moves[place]),
+        m: Move(legal[place]),
         state: next,
-        expanded: found.expanded,
+        expanded: look.expanded,
     }
 }
 
 // Whether a position is in play.
-fn in_play(table: &[u8; 512], pos: Game) -> bool
-    requires { (table.now ≡ line_table) × Held pos.words 0 }
+fn in_play(pos: Game) -> bool
+    requires { Held pos.words 0 }
     ensures { (p : Position) → Holds p pos.words 0 → result ≡ (game_state p == 0) }
 {
-    let words = pos.words;
-    !game::game_state(table, &words, 0).terminal()
+    !game::game_state(&pos.words, 0).terminal()
 }
 
 // A game: its last position, the state afterwards, and what was expanded.
@@ -196,17 +174,16 @@ pub struct Played {
 }
 
 // Plays a game from a position, turn after turn.
-fn play_game(table: &[u8; 512], words: &mut [u32], start: Game, c: Players, seed: u64) -> Played
-    requires { (table.now ≡ line_table) × Ready start.words words.old c }
+fn play_game(words: &mut [u32], start: Game, c: Players, seed: u64) -> Played
+    requires { Ready start.words words.old c }
     ensures { GamePlayed start.words c seed words.old words.new result }
 {
     let mut pos = start;
     let mut state = seed;
     let mut expanded: u64 = 0;
-    while in_play(table, pos) {
-        let t = take_turn(table, words, pos, c, state);
-        let m = t.m;
-        pos = after(table, pos, m);
+    while in_play(pos) {
+        let t = take_turn(words, pos, c, state);
+        pos = after(pos, t.m);
         state = t.state;
         expanded += t.expanded;
     }
@@ -235,7 +212,7 @@ fn state_number(s: GameState) -> u64
 fn one(b: bool) -> u64
     ensures { (result ≡ one b) × (result < 2) }
 {
-    if b { 1 } else { 0 }
+    b as u64
 }
 
 // The report: X's wins, O's wins, draws, and what was expanded in all.
@@ -248,13 +225,11 @@ pub struct Report {
 }
 
 // The report with one game more, which counts by the state of its last position.
-fn count_game(table: &[u8; 512], r: Report, g: Played) -> Report
-    requires { (table.now ≡ line_table) × Countable r g }
+fn count_game(r: Report, g: Played) -> Report
+    requires { Countable r g }
     ensures { (p : Position) → Holds p g.pos.words 0 → Counts (game_state p) r g result }
 {
-    let last = g.pos;
-    let words = last.words;
-    let state = state_number(game::game_state(table, &words, 0));
+    let state = state_number(game::game_state(&g.pos.words, 0));
     Report {
         x_wins: r.x_wins + one(state == 1),
         o_wins: r.o_wins + one(state == 2),
@@ -268,7 +243,6 @@ fn play_match(words: &mut [u32], start: Game, c: Players, seed: u64, games: u64)
     requires { Ready start.words words.old c × (games ≤ match_most) }
     ensures { MatchPlayed start.words c seed games words.old words.new result }
 {
-    let table = game::line_table();
     let mut report = Report {
         x_wins: 0,
         o_wins: 0,
@@ -276,12 +250,10 @@ fn play_match(words: &mut [u32], start: Game, c: Players, seed: u64, games: u64)
         expanded: 0,
     };
     let mut state = seed;
-    let mut i: u64 = 0;
-    while i < games {
-        let g = play_game(&table, words, start, c, state);
-        report = count_game(&table, report, g);
+    for i in 0..games {
+        let g = play_game(words, start, c, state);
+        report = count_game(report, g);
         state = g.state;
-        i += 1;
     }
     report
 }
@@ -290,56 +262,40 @@ fn play_match(words: &mut [u32], start: Game, c: Players, seed: u64, games: u64)
 fn larger_budget(c: Players) -> u64
     ensures { result ≡ larger (players_of c) }
 {
-    if c.x_budget < c.o_budget {
-        c.o_budget
-    } else {
-        c.x_budget
-    }
+    c.x_budget.max(c.o_budget)
 }
 
-// All checks, in their order, of a pool with so many nodes: 0 and the position, or the number of the first that refuses.
-fn accept(bytes: &[u8], nodes: usize, c: Players, games: u64) -> Loaded
-    ensures code_value { result.code ≡ simulate_refusal bytes.now nodes (players_of c) games }
-    ensures position { result.code ≡ 0 → Holds (position_of bytes.now) result.game.words 0 }
+// All checks, in their order, of a pool with so many nodes: the position, or the first that refuses.
+fn accept(bytes: &[u8], nodes: usize, c: Players, games: u64) -> Result<Game, Refusal>
+    ensures code { refusal_code result ≡ simulate_refusal bytes.now nodes (players_of c) games }
+    ensures position { IfOk result (λ g. Holds (position_of bytes.now) g.words 0) }
 {
-    let stay = c.stay;
     let l = SearchLimits {
         limit: c.limit,
         budget: larger_budget(c),
         interval: c.interval,
-        stay,
+        stay: c.stay,
     };
-    let accepted = searches::accept(bytes, nodes, RULE, l);
-    let game = accepted.game;
-    let checks = [
-        accepted.code,
-        refusals::refuses(23, games < LEAST_GAMES),
-        refusals::refuses(23, games > MOST_GAMES),
-    ];
-    Loaded {
-        code: refusals::first(&checks),
-        game,
-    }
-}
-
-// The answer: the report, or the check that turned the call back.
-#[derive(Clone, Copy)]
-pub enum Simulated {
-    Reported(Report),
-    Refused(u8),
+    let game = searches::accept(bytes, nodes, RULE, l)?;
+    refusals::first(&[
+        (games < LEAST_GAMES, Refusal::MatchGames),
+        (games > MOST_GAMES, Refusal::MatchGames),
+    ])?;
+    Ok(game)
 }
 
 // Runs games of two players from a record's position.
-pub fn simulate(bytes: &[u8], words: &mut [u32], c: Players, seed: u64, games: u64) -> Simulated
+pub fn simulate(
+    bytes: &[u8],
+    words: &mut [u32],
+    c: Players,
+    seed: u64,
+    games: u64,
+) -> Result<Report, Refusal>
     ensures result_value { simulated result ≡ simulate_call bytes.now (length words.old) (players_of c) seed games }
     ensures pool { PoolAfterSimulate (simulated result).number (in_play bytes.now) words.old words.new }
     ensures promised { PlayersStatement bytes.now (players_of c) seed games words.old words.new (simulated result) }
 {
-    let nodes = node_pool::capacity(words);
-    let loaded = accept(bytes, nodes, c, games);
-    if loaded.code != 0 {
-        return Simulated::Refused(loaded.code);
-    }
-    let start = loaded.game;
-    Simulated::Reported(play_match(words, start, c, seed, games))
+    let start = accept(bytes, node_pool::capacity(words), c, games)?;
+    Ok(play_match(words, start, c, seed, games))
 }

@@ -5,18 +5,18 @@ use Rattle.players.proofs.Gaming.{gaming_start, gaming_held}
 use Rattle.players.proofs.play_game.Goals as goal
 
 pub loop-c-init : goal.loop-c-init
-loop-c-init c = gaming_start _ _ _ _ c.requires.1
+loop-c-init c = gaming_start _ _ _ _ c.requires
 
 pub in_play-requires : goal.in_play-requires
-in_play-requires c = (c.requires.0, gaming_held c.loop-c.invariant)
+in_play-requires c = (gaming_held c.loop-c.invariant)
 
 pub take_turn-t-requires : goal.take_turn-t-requires
 take_turn-t-requires c =
-    (c.requires.0, gaming_turnable c.loop-c.invariant _ c.in_play.ensures c.loop-c-test.true)
+    (gaming_turnable c.loop-c.invariant _ c.in_play.ensures c.loop-c-test.true)
 
 pub after-pos-requires : goal.after-pos-requires
 after-pos-requires c =
-    (c.requires.0, gaming_movable c.loop-c.invariant _ c.in_play.ensures c.loop-c-test.true _ _ c.take_turn-t.ensures)
+    (gaming_movable c.loop-c.invariant _ c.in_play.ensures c.loop-c-test.true _ _ c.take_turn-t.ensures)
 
 pub overflow_add-expanded : goal.overflow_add-expanded
 overflow_add-expanded c =

@@ -1,5 +1,4 @@
--- `players::play_match` meets its contract: the games played and those that are left make the report; the measure is how many are left. Assumes nothing.
-use Rattle.std.proofs.Common.{◌-◌, arith}
+-- `players::play_match` meets its contract: the games played and those that are left make the report. Assumes nothing.
 use Rattle.players.proofs.Matching.{matching_start, matching_ready, matching_countable, matching_next, matching_done}
 use Rattle.players.proofs.play_match.Goals as goal
 
@@ -7,17 +6,11 @@ pub loop-i-init : goal.loop-i-init
 loop-i-init c = matching_start _ _ _ _ _ c.requires.0 c.requires.1
 
 pub play_game-g-requires : goal.play_game-g-requires
-play_game-g-requires c = (c.line_table-table.ensures, matching_ready c.loop-i.invariant)
+play_game-g-requires c = matching_ready c.loop-i.invariant
 
 pub count_game-report-requires : goal.count_game-report-requires
 count_game-report-requires c =
-    (c.line_table-table.ensures, matching_countable c.loop-i.invariant c.loop-i-test.true _ _ c.play_game-g.ensures)
-
-pub overflow_add-i : goal.overflow_add-i
-overflow_add-i c = omega (arith, c.loop-i-test.true)
-
-pub loop-i-smaller : goal.loop-i-smaller
-loop-i-smaller c = omega (arith, c.loop-i-test.true)
+    matching_countable c.loop-i.invariant c.loop-i-test.true _ _ c.play_game-g.ensures
 
 pub loop-i-preserved : goal.loop-i-preserved
 loop-i-preserved c =

@@ -1,5 +1,5 @@
 -- `players::take_turn` meets its contract: the legal moves are written and looked through, and one of them is played or drawn. Assumes nothing.
-use Rattle.std.proofs.Common.{arith}
+use Rattle.std.proofs.Common.{arith, take, length}
 use Rattle.rules.specs.Rules.{Position}
 use Rattle.rules.specs.Record.{Accepted}
 use Rattle.rules.proofs.LegalMoves.{moves_few}
@@ -10,38 +10,34 @@ use Rattle.players.proofs.take_turn.Goals.{After-settings_for-s}
 use Rattle.players.proofs.take_turn.Goals as goal
 
 looks : (c : After-settings_for-s) (p : Position) → Holds p c.args.pos.words 0 → Accepted p
-    → Looks c.args.c p c.args.pos.words c.write_moves-n.new.out c.write_moves-n.result c.settings_for-s.result
+    → Looks c.args.c p c.args.pos.words (take c.write_moves-n.result c.write_moves-n.new.out) (length (take c.write_moves-n.result c.write_moves-n.new.out)) c.settings_for-s.result
 looks c = to_look _ _ _ _ _ _ _ c.write_moves-n.ensures c.side_to_move.ensures.0 c.settings_for-s.ensures
 
-pub look_for_win-found-requires : goal.look_for_win-found-requires
-look_for_win-found-requires c =
-    (c.requires.0, record { players = c.args.c; pos = c.requires.1.0.pos; looks = looks (goal.at.look_for_win-found-requires c).After-settings_for-s c.requires.1.0.pos c.requires.1.0.holds c.requires.1.0.accepted; range = c.requires.1.0.range })
+pub look_for_win-look-requires : goal.look_for_win-look-requires
+look_for_win-look-requires c =
+    record { players = c.args.c; pos = c.requires.0.pos; looks = looks (goal.at.look_for_win-look-requires c).After-settings_for-s c.requires.0.pos c.requires.0.holds c.requires.0.accepted; range = c.requires.0.range }
 
-pub bounds-moves-place : goal.bounds-moves-place
-bounds-moves-place c =
-    let k = c.look_for_win-found.ensures.each _ c.requires.1.0.pos (looks (goal.at.bounds-moves-place c).After-settings_for-s c.requires.1.0.pos c.requires.1.0.holds c.requires.1.0.accepted) in
-    omega (arith, (k.wins c.if-found.true).0, moves_few c.requires.1.0.pos)
+pub bounds-legal-place : goal.bounds-legal-place
+bounds-legal-place c =
+    let l = looks (goal.at.bounds-legal-place c).After-settings_for-s c.requires.0.pos c.requires.0.holds c.requires.0.accepted in
+    omega (arith, ((c.look_for_win-look.ensures.each _ c.requires.0.pos l).wins _ c.in-Some.is).0, l.listed.count)
 
-pub returns-then-found : goal.returns-then-found
-returns-then-found c =
+pub returns-in-Some : goal.returns-in-Some
+returns-in-Some c =
     record {
-      past = c.look_for_win-found.ensures.past;
-      each = λ p h a e. let l = looks (goal.at.returns-then-found c).After-settings_for-s p h a in turned_wins _ p _ _ _ _ l.listed (c.look_for_win-found.ensures.each _ p l) c.if-found.true;
+      past = c.look_for_win-look.ensures.past;
+      each = λ p h a e. let l = looks (goal.at.returns-in-Some c).After-settings_for-s p h a in turned_wins _ p _ _ _ _ l.listed (c.look_for_win-look.ensures.each _ p l) _ c.in-Some.is;
     }
 
 pub drawn_place-place-requires : goal.drawn_place-place-requires
 drawn_place-place-requires c =
-    turnable_some c.requires.1.0.pos c.requires.1.0.accepted c.requires.1.1 _ _ (looks (goal.at.drawn_place-place-requires c).After-settings_for-s c.requires.1.0.pos c.requires.1.0.holds c.requires.1.0.accepted).listed
-
-pub bounds-moves-place-2 : goal.bounds-moves-place-2
-bounds-moves-place-2 c =
-    omega (arith, c.drawn_place-place.ensures.1, (looks (goal.at.bounds-moves-place-2 c).After-settings_for-s c.requires.1.0.pos c.requires.1.0.holds c.requires.1.0.accepted).listed.count, moves_few c.requires.1.0.pos)
+    turnable_some c.requires.0.pos c.requires.0.accepted c.requires.1 _ _ (looks (goal.at.drawn_place-place-requires c).After-settings_for-s c.requires.0.pos c.requires.0.holds c.requires.0.accepted).listed
 
 pub returns : goal.returns
 returns c =
     record {
-      past = c.look_for_win-found.ensures.past;
+      past = c.look_for_win-look.ensures.past;
       each = λ p h a e.
           let l = looks (goal.at.returns c).After-settings_for-s p h a in
-          turned_drawn _ p _ _ _ _ l.listed (c.look_for_win-found.ensures.each _ p l) c.if-found.false _ _ c.next_state-next.ensures c.drawn_place-place.ensures.0 c.drawn_place-place.ensures.1;
+          turned_drawn _ p _ _ _ _ l.listed (c.look_for_win-look.ensures.each _ p l) c.in_default.is _ _ c.next_state-next.ensures c.drawn_place-place.ensures.0 c.drawn_place-place.ensures.1;
     }
