@@ -1,12 +1,15 @@
 -- The whole call, check by check, and its answer. Rests on the checks' laws, Playing and Answers.
-use Rattle.std.specs.Prelude.{◌≡◌, refl, Bool, true, false, cond, List, map, ℕ, zero, suc, ◌+◌, ◌*◌, ◌/◌, ◌≤◌, ◌<◌, ltb, length, get_or}
+use Rattle.std.specs.Prelude.{◌≡◌, refl, Bool, true, false, cond, List, map, ℕ, zero, suc, ◌+◌, ◌*◌, ◌/◌, ◌≤◌, ◌<◌, ltb, length, get_or, Result, Ok}
 use Rattle.std.proofs.Common.{ap, sym, ◌∙◌, subst, div-le_self, div-mul-le_self, mul-div_cancel, mul_comm, mul_assoc, ltb-true, ltb-false}
 use native.Mathlib.Omega.{arith}
 use Rattle.std.proofs.lemmas.List.{length-map}
-use Rattle.machine.specs.Machine.{Result}
+use Rattle.machine.specs.Machine as machine
 use Rattle.passes.specs.Passes.{result_at}
 use Rattle.pn.specs.Results.{result_of}
 use Rattle.pn.specs.declared.SearchResult.{SearchResult}
+use Rattle.refusals.specs.Numbers.{number}
+use Rattle.refusals.specs.declared.Refusal.{Refusal}
+use Rattle.refusals.proofs.Passes.{number_positive}
 use Rattle.calls.proofs.Refusing.{refused_by, by_number}
 use Rattle.searches.specs.Searches.{nodes}
 use Rattle.games_checks.specs.Checks as checks
@@ -16,6 +19,7 @@ use Rattle.games_checks.specs.Earliest.{EarlyAt}
 use Rattle.games_checks.proofs.Passing.{counted, settled}
 use Rattle.games_checks.proofs.Naming.{none_early}
 use Rattle.games_checks.specs.declared.Common.{Common}
+use Rattle.games_checks.specs.declared.GameRefusal.{GameRefusal}
 use Rattle.games.specs.Games.{part_words, game_at, GamesOutcome, no_result, refused, judged, games_call, PoolAfterGames}
 use Rattle.games.specs.Answers.{outcome_of}
 use Rattle.games.proofs.Answers.{mapped}
@@ -58,12 +62,12 @@ module _ (bytes : List ℕ) (words : ℕ) (shares : List ℕ) (C : checks.Common
       (λ e. by_number Eight (settings_refusal (nodes words) (games bytes) (shares_of shares (games bytes)) C) _ _ (λ m e. refl) (λ e. refl)))
 
 -- a refusal leaves the pool as it was
-pub pool_refused : (r : JudgedGames) (code index n : ℕ) (w : List ℕ) → outcome_of r ≡ refused code index → (code ≡ 0 → ⊥) → PoolAfterGames r.code n w w
-pool_refused r code index n w e z = go r.code (ap (λ (o : GamesOutcome). o.number) e)
+pub pool_refused : (r : Refusal) (n : ℕ) (w : List ℕ) → PoolAfterGames (number r) n w w
+pool_refused r n w = go (number r) (number_positive r)
   where
-    go : (k : ℕ) → k ≡ code → PoolAfterGames k n w w
-    go zero q = absurd (z (sym q))
-    go (suc k) q = refl
+    go : (k : ℕ) → (k ≡ 0 → ⊥) → PoolAfterGames k n w w
+    go zero z = absurd (z refl)
+    go (suc k) z = refl
 
 -- the parts lie within the pool
 pub parts_fit : (words n : ℕ) → n * part_words words n ≤ words
@@ -107,7 +111,7 @@ module _ (bytes w shares : List ℕ) (c : Common) (some : number_refusal bytes �
       }
 
   -- the results of both passes are the call's
-  abbrev result : ℕ → Result
+  abbrev result : ℕ → machine.Result
   result i = result_at (game_at bytes (length w) shares (common_of c)) c.allowance n i
 
   module _ (u v : List ℕ) (f : FirstPass) (rs : List SearchResult) (first : FirstPassed bytes shares n size c w u f) (second : SecondPassed shares n size c f.kept f.unspent u v rs) where
@@ -151,5 +155,7 @@ module _ (bytes w shares : List ℕ) (c : Common) (some : number_refusal bytes �
     )
 
 -- so the code's answer has eight
-pub results_long : (bytes : List ℕ) (words : ℕ) (shares : List ℕ) (C : checks.Common) (r : JudgedGames) → outcome_of r ≡ games_call bytes words shares C → length r.results ≡ 8
-results_long bytes words shares C r e = sym (length-map r.results result_of) ∙ ap (λ (o : GamesOutcome). length o.results) e ∙ eight_results bytes words shares C
+pub results_long : (bytes : List ℕ) (words : ℕ) (shares : List ℕ) (C : checks.Common) (r : Result JudgedGames GameRefusal) → outcome_of r ≡ games_call bytes words shares C
+    → (g : JudgedGames) → r ≡ Ok g → length g.results ≡ 8
+results_long bytes words shares C r e g q =
+    sym (length-map g.results result_of) ∙ ap (λ (o : GamesOutcome). length o.results) (sym (ap outcome_of q) ∙ e) ∙ eight_results bytes words shares C

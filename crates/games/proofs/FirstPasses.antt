@@ -1,11 +1,15 @@
 -- The first pass from one game to the next, and what both passes need of a part. Rests on Playing, Parts and the passes' laws.
-use Rattle.std.specs.Prelude.{◌≡◌, refl, List, ℕ, suc, ◌+◌, ◌*◌, ◌-◌, ◌/◌, ◌≤◌, ◌<◌, length, get_or, take, drop, set}
+use Rattle.std.specs.Prelude.{◌≡◌, refl, List, ℕ, suc, ◌+◌, ◌*◌, ◌-◌, ◌/◌, ◌≤◌, ◌<◌, length, get_or, take, drop, set, Result, Ok}
 use Rattle.std.proofs.Common.{ap, sym, ◌∙◌, subst, arith, length-set, get_or-set_same, get_or-set_other}
 use Rattle.std.proofs.Math.Decide.{ℕ_discrete}
 use borrow.Rule.Slice.PartMut.{put_mid, mid_len, same_len_mid}
 use Rattle.rules.specs.Rules.{Position}
 use Rattle.rules.specs.Record.{Accepted, refusal, position_of}
 use Rattle.rules.proofs.Checks.{loads, loads_accepted}
+use Rattle.refusals.specs.Numbers.{refusal_code}
+use Rattle.refusals.specs.declared.Refusal.{Refusal}
+use Rattle.refusals.proofs.Passes.{is_ok}
+use Rattle.game.specs.declared.Game.{Game}
 use Rattle.game.specs.Words.{Holds}
 use Rattle.words.specs.Words.{capacity}
 use Rattle.passes.specs.Passes.{total, first, spent, unspent_at}
@@ -68,10 +72,12 @@ module _ {bytes w₀ shares : List ℕ} {n size : ℕ} {c : Common} (g : Playabl
   record_accepted : (i : ℕ) → i < n → Accepted (positions_of bytes i)
   record_accepted i l = loads_accepted (record_at bytes i) (loads (record_at bytes i) (g.loads i l))
 
-  -- the game that was loaded
-  pub record_holds : (i code : ℕ) (q : List ℕ) → i < n → code ≡ refusal (cut (i * 21) (i * 21 + 21) bytes)
-      → (code ≡ 0 → Holds (position_of (cut (i * 21) (i * 21 + 21) bytes)) q 0) → Holds (positions_of bytes i) q 0
-  record_holds i code q l e h = subst (λ b. Holds (position_of b) q 0) (record_cut i) (h (e ∙ ap refusal (record_cut i) ∙ g.loads i l))
+  -- the game that is loaded
+  pub record_read : (i : ℕ) (r : Result Game Refusal) → i < n → refusal_code r ≡ refusal (cut (i * 21) (i * 21 + 21) bytes) → (x : Game) × (r ≡ Ok x)
+  record_read i r l e = is_ok r (e ∙ ap refusal (record_cut i) ∙ g.loads i l)
+
+  pub record_holds : (i : ℕ) (q : List ℕ) → Holds (position_of (cut (i * 21) (i * 21 + 21) bytes)) q 0 → Holds (positions_of bytes i) q 0
+  record_holds i q h = subst (λ b. Holds (position_of b) q 0) (record_cut i) h
 
 -- game i
 module _ {bytes w₀ shares : List ℕ} {n size : ℕ} {c : Common} {w : List ℕ} {kept : List Kept} {u i : ℕ} (h : First bytes w₀ shares n size c w kept u i) (l : i < n) where

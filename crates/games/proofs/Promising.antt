@@ -1,5 +1,6 @@
 -- The call is as promised. Rests on GamesStatement, Calling, the checks' laws and the passes' laws.
 use Rattle.std.specs.Prelude.{◌≡◌, Bool, true, false, ◌⊎◌, ltb, eqb, length, replicate}
+use Rattle.std.specs.Prelude as prelude
 use Rattle.std.proofs.Math.Path.{refl, ap, subst}
 use Rattle.std.proofs.Common.{sym, ◌∙◌, arith, div-le_self, div-add-mod'}
 use Rattle.std.proofs.Math.Bool.{cond}
@@ -17,6 +18,7 @@ use Rattle.machine.specs.Machine.{Result}
 use Rattle.passes.specs.Passes.{OneGame, total, first, spent, unspent_at, result_at, expanded_by}
 use Rattle.passes.specs.Laws.{Bounded}
 use Rattle.passes.proofs.Laws.{accounts, total_one, total_same, grant_least, unspent_is, grant_within, all_within, result_alike}
+use Rattle.refusals.specs.Numbers.{number}
 use Rattle.resume.specs.Lone.{lone_bounded}
 use Rattle.calls.specs.Calls.{last_rule, answer_unless}
 use Rattle.stay.specs.Margin.{stay_of}
@@ -24,6 +26,8 @@ use Rattle.searches.specs.Searches.{pool_least, pool_most, interval_least, inter
 use Rattle.searches.proofs.SearchAnswers.{search_answered}
 use Rattle.searches.proofs.TwoSearches.{third_condition}
 use Rattle.games_checks.specs.Checks.{games_most, games, record_at, number_refusal, refusal_at, refusals, earliest, lowest, Common, shares_of, settings_refusal}
+use Rattle.games_checks.specs.Earliest.{game_code}
+use Rattle.games_checks.specs.declared.GameRefusal.{GameRefusal}
 use Rattle.games_checks.proofs.Passing.{counted, Settled, settled}
 use Rattle.games_checks.proofs.Naming.{none_early, early_none, earliest_least, lowest_first, lowest_found}
 use Rattle.games.specs.Games.{part_words, game_at, GamesOutcome, no_result, refused, judged, games_call, PoolAfterGames}
@@ -298,20 +302,24 @@ games_statement bytes shares C w v pool = record {
     as_it_was (suc k) z h = h
 
 -- of the code's answer: its equation, the pool's words, and all that is promised
-abbrev pub Keeps : (bytes shares : List ℕ) → Common → (w v : List ℕ) → JudgedGames → Type 0
-Keeps bytes shares C w v r = (outcome_of r ≡ games_call bytes (length w) shares C) × (PoolAfterGames r.code (games bytes) w v × GamesStatement bytes shares C w v (outcome_of r))
+abbrev pub Keeps : (bytes shares : List ℕ) → Common → (w v : List ℕ) → prelude.Result JudgedGames GameRefusal → Type 0
+Keeps bytes shares C w v r = (outcome_of r ≡ games_call bytes (length w) shares C) × (PoolAfterGames (game_code r) (games bytes) w v × GamesStatement bytes shares C w v (outcome_of r))
 
-pub keeps : (bytes shares : List ℕ) (C : Common) (w v : List ℕ) (r : JudgedGames) → outcome_of r ≡ games_call bytes (length w) shares C → PoolAfterGames r.code (games bytes) w v
-    → Keeps bytes shares C w v r
+outcome_number : (r : prelude.Result JudgedGames GameRefusal) → (outcome_of r).number ≡ game_code r
+outcome_number (prelude.Ok g) = refl
+outcome_number (prelude.Err e) = refl
+
+pub keeps : (bytes shares : List ℕ) (C : Common) (w v : List ℕ) (r : prelude.Result JudgedGames GameRefusal) → outcome_of r ≡ games_call bytes (length w) shares C
+    → PoolAfterGames (game_code r) (games bytes) w v → Keeps bytes shares C w v r
 keeps bytes shares C w v r e pool = (
   e,
   (
     pool,
     subst (GamesStatement bytes shares C w v) (sym e)
-        (games_statement bytes shares C w v (subst (λ k. PoolAfterGames k (games bytes) w v) (ap (λ (o : GamesOutcome). o.number) e) pool)),
+        (games_statement bytes shares C w v (subst (λ k. PoolAfterGames k (games bytes) w v) (sym (outcome_number r) ∙ ap (λ (o : GamesOutcome). o.number) e) pool)),
   ),
 )
 
-pub keeps_refused : (bytes shares : List ℕ) (C : Common) (w : List ℕ) (r : JudgedGames) (code index : ℕ) → outcome_of r ≡ refused code index
-    → refused code index ≡ games_call bytes (length w) shares C → (code ≡ 0 → ⊥) → Keeps bytes shares C w w r
-keeps_refused bytes shares C w r code index e q z = keeps bytes shares C w w r (e ∙ q) (pool_refused r code index (games bytes) w e z)
+pub keeps_refused : (bytes shares : List ℕ) (C : Common) (w : List ℕ) (e : GameRefusal) → refused (number e.refusal) e.index ≡ games_call bytes (length w) shares C
+    → Keeps bytes shares C w w (prelude.Err e)
+keeps_refused bytes shares C w e q = keeps bytes shares C w w (prelude.Err e) q (pool_refused e.refusal (games bytes) w)
