@@ -1,7 +1,7 @@
 -- The checks with the code's sum, and what they tell where they refuse nothing. Rests on Checks and Sums.
 use Rattle.std.specs.Prelude.{◌≡◌, refl, Bool, true, not, Option, None, Some, List, [], ◌∷◌, ℕ, ◌/◌, ◌%◌, ◌≤◌, ltb, length}
 use Rattle.std.specs.Option.{is_some, unwrap_or}
-use Rattle.std.proofs.Common.{ap, sym, ◌∙◌, subst, true≢false, eqb-true}
+use Rattle.std.proofs.Common.{ap, sym, ◌∙◌, true≢false, eqb-true}
 use Rattle.std.proofs.Math.Bool.{false}
 use Rattle.rules.specs.Rules.{any}
 use Rattle.rules.specs.Refusals.{refuses, first_refusal}

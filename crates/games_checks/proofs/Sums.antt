@@ -1,6 +1,6 @@
 -- The loop over the shares: what it has added up, and its end. Rests on Sums and Checks.
-use Rattle.std.specs.Prelude.{◌≡◌, refl, true, false, cond, List, ◌∷◌, ℕ, suc, ◌+◌, ◌*◌, ◌-◌, ◌≤◌, ◌<◌, Option, None, Some, ltb, length, get_or, take}
-use Rattle.std.proofs.Common.{ap, sym, ◌∙◌, subst, arith, add-one, lt-ltb, le-ltb}
+use Rattle.std.specs.Prelude.{◌≡◌, refl, List, ◌∷◌, ℕ, suc, ◌+◌, ◌*◌, ◌-◌, ◌≤◌, ◌<◌, None, Some, ltb, length, get_or, take}
+use Rattle.std.proofs.Common.{ap, ◌∙◌, arith, add-one, lt-ltb, le-ltb}
 use Rattle.std.proofs.lemmas.List.{get_or-take, length-take-le}
 use Rattle.rules.specs.Rules.{answers, any}
 use Rattle.passes.specs.Passes.{total}

@@ -6,7 +6,7 @@ use Rattle.rules.specs.Rules.{Position}
 use Rattle.pn.specs.declared.Settings.{Settings}
 use Rattle.resume.specs.Keeping.{Stopped}
 use Rattle.resume.specs.declared.Kept.{Kept}
-use Rattle.games.proofs.FirstPasses.{part_fits, record_fits, record_read, record_holds, to_first, first_accepted, unspent_enough, first_start, first_next, first_done}
+use Rattle.games.proofs.FirstPasses.{record_read, record_holds, to_first, first_accepted, unspent_enough, first_start, first_next, first_done}
 use Rattle.games.proofs.first_pass.Goals as goal
 
 -- The same search, its settings by an equation

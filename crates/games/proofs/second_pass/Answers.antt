@@ -3,7 +3,6 @@ use Rattle.std.specs.Prelude.{refl}
 use Rattle.std.proofs.Common.{ap, ◌∙◌, arith}
 use lib.ListN.{get_or-replicate}
 use Rattle.pn.specs.Results.{result_of}
-use Rattle.games.proofs.FirstPasses.{part_fits}
 use Rattle.games.proofs.SecondPasses.{to_second, second_start, second_next, second_done}
 use Rattle.games.proofs.second_pass.Goals as goal
 
