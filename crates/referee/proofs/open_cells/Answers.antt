@@ -7,9 +7,6 @@ use Rattle.referee.proofs.open_cells.Goals.{then-is_open, else-is_open}
 pub loop-i-init : goal.loop-i-init
 loop-i-init c = start _ _
 
-pub overflow_add-n : goal.overflow_add-n
-overflow_add-n c = omega (arith, c.loop-i.invariant.few, c.loop-i-test.true)
-
 pub loop-i-preserved : goal.loop-i-preserved
 loop-i-preserved c =
     let place : c.loop-i.i < 81 = omega (arith, c.loop-i-test.true) in
