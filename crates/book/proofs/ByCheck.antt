@@ -1,10 +1,11 @@
 -- The calls by the check that decides, as the code goes through them. Rests on Book and Passing.
-use Rattle.std.specs.Prelude.{◌≡◌, refl, true, List, [], ◌∷◌, ℕ, zero, suc, ◌+◌, ◌*◌, ◌/◌, ◌%◌, ◌≤◌, ◌<◌, ltb, length}
+use Rattle.std.specs.Prelude.{◌≡◌, refl, Bool, true, List, [], ◌∷◌, false, Some, ℕ, zero, suc, ◌+◌, ◌*◌, ◌/◌, ◌%◌, ◌≤◌, ◌<◌, ltb, length}
 use Rattle.std.proofs.Common.{sym, subst, ◌∙◌, arith, add-one}
 use borrow.Author.Tests.{ne_eqb, le-leb, lt-leb, le-ltb, lt-ltb}
 use Rattle.rules.specs.Record.{position_of, refusal}
 use Rattle.rules.proofs.Checks.{loads_length}
 use Rattle.rules.specs.Refusals.{refuses, first_refusal}
+use Rattle.rules.proofs.RefusalLaws.{first_refuses, rest_refuses, last_refuses}
 use Rattle.game.specs.Words.{Holds}
 use Rattle.machine.specs.Machine.{Verdict, True, False, Unknown}
 use Rattle.prove.specs.Numbers.{verdict_number}
@@ -12,7 +13,7 @@ use Rattle.calls.specs.Calls.{last_rule}
 use Rattle.calls.proofs.Refusing.{refused_by}
 use Rattle.searches.specs.Searches.{Limits, nodes, search_refusal}
 use Rattle.searches.specs.Accepting.{Passed}
-use Rattle.entries.specs.Entries.{is_trainer, with_entries, holds_pair, find, place, new_entry, storing, marking}
+use Rattle.entries.specs.Entries.{is_trainer, found_number, with_entries, holds_pair, find, place, new_entry, storing, marking}
 use Rattle.entries.specs.declared.Caller.{Caller}
 use Rattle.entries.specs.declared.Caller.TheVariants.{Arbiter}
 use Rattle.book.specs.Book.{Book, book_of, BookOutcome, book_outcome, size, used, broken, refused}
@@ -36,10 +37,14 @@ to_find bytes B e f = (loads_length bytes e, omega (arith, f.within))
 
 -- a lookup
 module _ (bytes : List ℕ) (rule : ℕ) (B : Book) where
-  pub lookup_code : {a b d n : ℕ} → a ≡ refusal bytes → b ≡ refuses 10 (ltb last_rule rule) → d ≡ refuses 17 (broken B) → n ≡ first_refusal (a ∷ b ∷ d ∷ [])
-      → n ≡ lookup_refusal bytes rule B
+  -- the record's checks, and the two after them
+  pub lookup_by_record : (n : ℕ) → n ≡ refusal bytes → (n ≡ 0 → ⊥) → n ≡ lookup_refusal bytes rule B
   unfolding lookup_refusal
-  lookup_code ea eb ed en = rw (en, ea, eb, ed)
+  lookup_by_record n e z = rw (← e) (sym (first_refuses n _ z))
+
+  pub lookup_late : refusal bytes ≡ 0 → (n : ℕ) (b : Bool) → b ≡ broken B → n ≡ first_refusal (refuses 10 (ltb last_rule rule) ∷ refuses 17 b ∷ []) → n ≡ lookup_refusal bytes rule B
+  unfolding lookup_refusal
+  lookup_late loaded n b eb e = e ∙ rw eb (sym (rest_refuses (refusal bytes) _ loaded))
 
   pub lookup_turned : (who : Caller) {n : ℕ} → n ≡ lookup_refusal bytes rule B → (n ≡ 0 → ⊥) → refused B n ≡ lookup_call who bytes rule B
   unfolding lookup_call
@@ -59,7 +64,7 @@ number_few False = omega arith
 number_few Unknown = omega arith
 
 module _ (B : Book) (bytes : List ℕ) (rule : ℕ) where
-  pub none_stored : {v n : ℕ} → v ≡ n → v ≡ 0 → searching B 0 ≡ after_search B bytes rule n
+  pub none_stored : {v n : ℕ} → v ≡ n → v ≡ 0 → searching B v ≡ after_search B bytes rule n
   none_stored e z = rw (← e, z)
 
   pub one_stored : {n : ℕ} (v : ℕ) → v ≡ n → (v ≡ 0 → ⊥) → {after : List ℕ} → after ≡ with_entries (storing (new_entry bytes rule v) (used B)) B.bytes
@@ -67,11 +72,25 @@ module _ (B : Book) (bytes : List ℕ) (rule : ℕ) where
   one_stored zero e z w = absurd (z refl)
   one_stored (suc v) e z w = rw (← e, w, add-one)
 
+-- a verdict that is found has a number
+pub found_some : (v : Bool) → found_number (Some v) ≡ 0 → ⊥
+found_some true e = omega arith
+found_some false e = omega arith
+
 -- an add
-pub add_code : (who : Caller) (bytes : List ℕ) (capacity rule : ℕ) (L : Limits) (B : Book) {w a d n : ℕ} → w ≡ refuses 19 (is_trainer who)
-    → a ≡ search_refusal bytes capacity rule L → d ≡ refuses 17 (broken B) → n ≡ first_refusal (w ∷ a ∷ d ∷ []) → n ≡ add_refusal who bytes capacity rule L B
-unfolding add_refusal
-add_code who bytes capacity rule L B ew ea ed en = rw (en, ew, ea, ed)
+module _ (who : Caller) (bytes : List ℕ) (capacity rule : ℕ) (L : Limits) (B : Book) where
+  pub add_by_caller : (n : ℕ) → n ≡ refuses 19 (is_trainer who) → (n ≡ 0 → ⊥) → n ≡ add_refusal who bytes capacity rule L B
+  unfolding add_refusal
+  add_by_caller n e z = rw (← e) (sym (first_refuses n _ z))
+
+  module _ (w : refuses 19 (is_trainer who) ≡ 0) where
+    pub add_by_search : (n : ℕ) → n ≡ search_refusal bytes capacity rule L → (n ≡ 0 → ⊥) → n ≡ add_refusal who bytes capacity rule L B
+    unfolding add_refusal
+    add_by_search n e z = rw (← e) (sym (first_refuses n _ z) ∙ sym (rest_refuses _ _ w))
+
+    pub add_by_book : search_refusal bytes capacity rule L ≡ 0 → (n : ℕ) → n ≡ refuses 17 (broken B) → n ≡ add_refusal who bytes capacity rule L B
+    unfolding add_refusal
+    add_by_book a n e = rw (← e) (sym (last_refuses n) ∙ sym (rest_refuses _ _ a) ∙ sym (rest_refuses _ _ w))
 
 module _ (who : Caller) (bytes : List ℕ) (words rule : ℕ) (L : Limits) (B : Book) {n capacity : ℕ} (a : n ≡ add_refusal who bytes capacity rule L B) (q : capacity ≡ nodes words) where
   its_code : n ≡ add_refusal who bytes (nodes words) rule L B
@@ -107,9 +126,13 @@ module _ (who : Caller) (bytes : List ℕ) (words rule : ℕ) (L : Limits) (B : 
 
 -- a publish
 module _ (who : Caller) (bytes : List ℕ) (rule : ℕ) (B : Book) where
-  pub publish_code : {w a n : ℕ} → w ≡ refuses 19 (is_trainer who) → a ≡ lookup_refusal bytes rule B → n ≡ first_refusal (w ∷ a ∷ []) → n ≡ publish_refusal who bytes rule B
+  pub publish_by_caller : (n : ℕ) → n ≡ refuses 19 (is_trainer who) → (n ≡ 0 → ⊥) → n ≡ publish_refusal who bytes rule B
   unfolding publish_refusal
-  publish_code ew ea en = rw (en, ew, ea)
+  publish_by_caller n e z = rw (← e) (sym (first_refuses n _ z))
+
+  pub publish_late : refuses 19 (is_trainer who) ≡ 0 → (n : ℕ) → n ≡ lookup_refusal bytes rule B → n ≡ publish_refusal who bytes rule B
+  unfolding publish_refusal
+  publish_late w n e = rw (← e) (sym (last_refuses n) ∙ sym (rest_refuses _ _ w))
 
   module _ {n : ℕ} (e : n ≡ publish_refusal who bytes rule B) where
     pub publish_turned : (n ≡ 0 → ⊥) → refused B n ≡ publish_call who bytes rule B
@@ -120,14 +143,14 @@ module _ (who : Caller) (bytes : List ℕ) (rule : ℕ) (B : Book) where
       pub publish_scans : ToFind bytes B
       publish_scans = let p = publish_passed who bytes rule B (sym e ∙ z) in to_find bytes B p.loaded p.book_fits
 
-      module _ {at : ℕ} (f : at ≡ place (holds_pair bytes rule) (used B) * 22) where
-        pub publish_missing : B.count * 22 ≤ at → unsearched B 0 ≡ publish_call who bytes rule B
+      module _ {i : ℕ} (f : i ≡ place (holds_pair bytes rule) (used B)) where
+        pub publish_missing : i ≡ B.count → unsearched B 0 ≡ publish_call who bytes rule B
         unfolding publish_call
         publish_missing l = rw (← e, z, le-ltb (place (holds_pair bytes rule) (used B)) B.count (omega arith))
 
-        pub publish_marks : at < B.count * 22 → {after : List ℕ} → after ≡ marking at B.bytes → unsearched (book_of after B.count) 1 ≡ publish_call who bytes rule B
+        pub publish_marks : i < B.count → {at : ℕ} → at ≡ i * 22 → {after : List ℕ} → after ≡ marking at B.bytes → unsearched (book_of after B.count) 1 ≡ publish_call who bytes rule B
         unfolding publish_call
-        publish_marks l w = rw (← e, z, lt-ltb (place (holds_pair bytes rule) (used B)) B.count (omega arith), w, f)
+        publish_marks l q w = rw (← e, z, lt-ltb (place (holds_pair bytes rule) (used B)) B.count (omega arith), w, q, f)
 
 -- an outcome whose numbers and book are known is the outcome; and the pool after it
 module _ {x o : BookOutcome} (e : x ≡ o) where
