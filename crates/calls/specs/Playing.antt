@@ -1,4 +1,4 @@
--- Moves made one after the other by the code, against the rules' replay: what the loop has made so far, and its end. Rests on the rules, game's Words and Moves.
+-- What making moves one after the other comes to: the place that is reached, and why no more are made. Rests on the rules, game's Words and Numbers.
 use Rattle.std.specs.Prelude.{◌≡◌, List, ℕ, ◌<◌, length, get_or, take, Result, Ok, Err}
 use Rattle.rules.specs.Rules.{Position, move_error, replay}
 use Rattle.rules.specs.Rules.Replayed.{Reached}

@@ -1,4 +1,4 @@
--- Legal moves written from the front of an output: what the loop has written so far, and its end. Rests on the rules, game's Words and Cursor.
+-- What it is for moves to stand at the front of an output. Rests on lists alone.
 use Rattle.std.specs.Prelude.{◌≡◌, List, ◌++◌, ℕ, length, drop}
 
 -- n moves stand at the front of the output, and the rest of it is untouched

@@ -1,4 +1,4 @@
--- The 18 bits of a board, taken from the words, and the nine cells in those. Rests on RecordWords and Parts.
+-- The nine codes in the 18 bits of a board. Rests on numbers alone.
 use Rattle.std.specs.Prelude.{ℕ, ◌*◌, ◌-◌, ◌/◌, ◌%◌, ◌^◌}
 
 -- The 18 bits of a board are nine codes; code 0 has the two most significant.

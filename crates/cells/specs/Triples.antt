@@ -1,4 +1,4 @@
--- Masks of the nine codes that 18 bits make, by a table of 64 entries, three codes to an entry. Rests on Reading, BoardBits and the game's masks.
+-- The masks of three codes, packed in a number, and the table of the 64. Rests on the game's masks.
 use Rattle.std.specs.Prelude.{List, [], ◌∷◌, ℕ, ◌+◌, ◌*◌, ◌/◌, ◌%◌}
 use Rattle.rules.specs.Rules.{answers}
 use Rattle.game.specs.Masks.{mask}

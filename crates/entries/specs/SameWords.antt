@@ -1,4 +1,4 @@
--- Records compared by three words, from bytes 0, 8 and 13 on: they are the same exactly if the words are. Rests on Entries, Finding and Scanning.
+-- What comparing eight bytes of two records tells: they are alike, or the records are not the same. Rests on Entries and Scanning.
 use Rattle.std.specs.Prelude.{◌≡◌, Bool, true, false, List, ℕ, zero, suc, ◌+◌, ◌*◌, ◌<◌, get_or}
 use Rattle.entries.specs.Entries.{same_bytes}
 use Rattle.entries.specs.Scanning.{record_at}

@@ -1,4 +1,4 @@
--- The scan of a book, as its loop goes: what the tests of an entry tell, and that the entries that are left decide which is the first. Rests on Entries.
+-- The record's bytes of an entry. Rests on lists alone.
 use Rattle.std.specs.Prelude.{List, take}
 use Prim.Native.Nat.{ℕ}
 use Rattle.std.proofs.Math.ListN.{drop}

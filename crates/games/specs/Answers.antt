@@ -1,4 +1,4 @@
--- What the code's answer says, and what its lists come to. Rests on Games, on the numbers of the refusals and on the nine fields as the machine has them.
+-- What the code's answer says. Rests on Games, on the numbers of the refusals and on the nine fields as the machine has them.
 use Rattle.std.specs.Prelude.{map, Result, Ok, Err}
 use Rattle.pn.specs.Results.{result_of}
 use Rattle.refusals.specs.Numbers.{number}

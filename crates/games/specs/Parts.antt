@@ -1,4 +1,4 @@
--- Equal parts of a list of words, one of them changed. Rests on the laws of a part of a slice.
+-- A part of a list of words. Rests on lists alone.
 use Rattle.std.specs.Prelude.{List, ℕ, ◌-◌, take, drop}
 
 -- a part of a list, as a part of a slice is cut

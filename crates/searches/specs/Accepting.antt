@@ -1,5 +1,4 @@
--- What the checks of a search tell: one that is not refused has a record that loads and numbers within their ranges, and that is what the search asks for.
--- Rests on Searches, calls' Refusing and pn's Searchable.
+-- What is known of a search that no check refused, and what it asks for and comes to. Rests on Searches and pn's Results.
 use Rattle.std.specs.Prelude.{◌≡◌, List, ℕ, ◌≤◌, length}
 use Rattle.rules.specs.Record.{position_of, refusal}
 use Rattle.game.specs.Words.{Holds}
