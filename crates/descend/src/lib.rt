@@ -18,7 +18,8 @@ use prove::Bounds;
 use prover::Prover;
 use stay::Stay;
 
-// The first listed child, from `first` on, whose delta is phi.
+// The first listed child, from `first` on, whose delta is phi. It is there, so no turn asks whether the list ends, as node_pool::find would, and the edit
+// sibling-is-first-child needs this walk's own step.
 pub fn select(words: &[u32], first: NodeID, phi: u32) -> NodeID
     requires { Selectable words.now first.0 phi }
     ensures { Selects words.now first.0 phi result.0 }

@@ -51,11 +51,11 @@ fn count_made(words: &[u16], base: usize, rule: u64, attacker: usize) -> u32
     ensures { (l : Countable words.now base attacker) → result ≡ child_count rule l }
 {
     let o = Outer::read(words, base);
-    let target = o.target as usize;
-    match target {
-        0..=8 => count_from(words, base, o, target * 9, rule, attacker),
-        _ => count_from(words, base, o, 0, rule, attacker),
-    }
+    let start = match o.target {
+        0..=8 => o.target as usize * 9,
+        _ => 0,
+    };
+    count_from(words, base, o, start, rule, attacker)
 }
 
 // Step 3. With 81 nodes free nothing is counted, and with one for each legal move no child is looked at.

@@ -10,15 +10,15 @@ use Rattle.descend.proofs.choose.Goals as goal
 pub find-requires : goal.find-requires
 find-requires c = to_find c.requires.0
 
-pub within_margin-requires : goal.within_margin-requires
-within_margin-requires c =
-    (found_slot c.requires.0 (rw c.remembered_in.ensures at c.in-Some.ensures), c.requires.0.listing.small, rw c.in-Margin.is at c.requires.1)
-
 pub returns : goal.returns
 returns c =
     λ K n ks l.
     let t = rw c.remembered_in.ensures at c.in-Some.ensures in
     rw c.in-Margin.is (chosen_again K _ _ _ _ n ks l _ _ t (tried_some K _ _ _ _ n ks l _ _ t _ (rw c.if-within_margin.true at c.within_margin.ensures)))
+
+pub within_margin-requires : goal.within_margin-requires
+within_margin-requires c =
+    (found_slot c.requires.0 (rw c.remembered_in.ensures at c.in-Some.ensures), c.requires.0.listing.small, rw c.in-Margin.is at c.requires.1)
 
 pub select-requires : goal.select-requires
 select-requires c = to_select c.requires.0
