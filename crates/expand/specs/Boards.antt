@@ -13,7 +13,6 @@ use Rattle.game.specs.Cursor.{moves_from}
 use Rattle.machine.specs.Machine.{Verdict, Unknown}
 use Rattle.plain.specs.Plain.{game}
 use Rattle.words.specs.Packed.{view}
-use Rattle.children.specs.declared.Outer.{Outer}
 use Rattle.children.specs.Scalars.{OuterOf, CellsOf, ChildOf}
 use Rattle.children.specs.Skips.{Playing, board_test, cell_skip, cell_hit}
 use Rattle.children.specs.After.{MayEnd}
@@ -24,8 +23,8 @@ use Rattle.expand.specs.declared.Parent.{Parent}
 use Rattle.expand.specs.Progress.{Leaf, game_at, Progress, progress_on, progress_ended, Addable, Adds}
 
 -- What the code reads of the leaf's position, and what it hands on to all children
-pub record ParentOf (l : Leaf) (o : Outer) (p : Parent) : Type 0 where
-  pub outer : OuterOf l.node.pos o
+pub record ParentOf (l : Leaf) (p : Parent) : Type 0 where
+  pub outer : OuterOf l.node.pos p.outer
   pub unfinished : game_state l.node.pos ≡ 0
   pub rule_is : p.rule ≡ l.rule
   pub root_is : p.attacker ≡ side_bit l.root
@@ -41,7 +40,7 @@ pub record BoardOf (l : Leaf) (b mine taken : ℕ) : Type 0 where
 abbrev pub AtCell : Leaf → List ℕ → Made → ℕ → ℕ → Type 0
 AtCell l w m b c = Progress l w m (moves_from l.node.pos (b * 9 + c))
 
-module _ (l : Leaf) (o : Outer) (p : Parent) (b mine taken c : ℕ) (k : ParentOf l o p) (d : BoardOf l b mine taken) (lc : c < 9) where
+module _ (l : Leaf) (p : Parent) (b mine taken c : ℕ) (k : ParentOf l p) (d : BoardOf l b mine taken) (lc : c < 9) where
   pub one_on : b * 9 + c + 1 ≡ b * 9 + (c + 1)
   one_on = omega arith
 
@@ -52,7 +51,7 @@ module _ (l : Leaf) (o : Outer) (p : Parent) (b mine taken c : ℕ) (k : ParentO
 
   -- The child by an empty one
   module _ (e : has_bit taken c ≡ false) where
-    pub cell_child : ChildOf l.node.pos o mine taken b c
+    pub cell_child : ChildOf l.node.pos p.outer mine taken b c
     cell_child = child_of k.outer k.unfinished d.cells d.playing d.in_range c lc e
 
     unfoldable pub cell_addable : (w : List ℕ) (m : Made) (x : ℕ) (v : Verdict) (and : Bool) → m.ended ≡ false → x ≡ move_of b c
@@ -74,10 +73,9 @@ module _ (l : Leaf) (o : Outer) (p : Parent) (b mine taken c : ℕ) (k : ParentO
 -- What the loop over a board asks for on which no move can end the game
 pub record OpenBoard (w : List ℕ) (taken b : ℕ) (and : Bool) (m : Made) : Type 0 where
   pub leaf : Leaf
-  pub outer : Outer
   pub parent : Parent
   pub mine : ℕ
-  pub of_leaf : ParentOf leaf outer parent
+  pub of_leaf : ParentOf leaf parent
   pub board : BoardOf leaf b mine taken
   pub and_is : and ≡ parent.and
   pub stays : (x : ℕ) → board_of x ≡ b → move_error leaf.node.pos x ≡ 0 → game_state (play leaf.node.pos x) ≡ 0
@@ -98,11 +96,11 @@ module _ (w : List ℕ) (taken b : ℕ) (and : Bool) (m : Made) (g : OpenBoard w
   -- The child by an empty cell is open
   pub open_child : Unknown ≡ (view (game_at g.leaf)).value (play g.leaf.node.pos (move_of b c))
   open_child =
-      let k = cell_child g.leaf g.outer g.parent b g.mine taken c g.of_leaf g.board lc e in
+      let k = cell_child g.leaf g.parent b g.mine taken c g.of_leaf g.board lc e in
       open_value g.leaf.rule g.leaf.root g.leaf.node.pos (move_of b c) k.legal (g.stays (move_of b c) (omega arith) k.legal)
 
   unfoldable pub opening_asks : Addable w₁ m₁ x Unknown and
-  opening_asks = cell_addable g.leaf g.outer g.parent b g.mine taken c g.of_leaf g.board lc e w₁ m₁ x Unknown and h.going ex open_child g.and_is h.progress
+  opening_asks = cell_addable g.leaf g.parent b g.mine taken c g.of_leaf g.board lc e w₁ m₁ x Unknown and h.going ex open_child g.and_is h.progress
 
   pub opening_step : (w₂ : List ℕ) (m₂ : Made) → Adds w₁ m₁ x Unknown and w₂ m₂ → Opening g.leaf b (c + 1) w₂ m₂
   unfolding opening_asks cell_addable
@@ -116,26 +114,26 @@ module _ (w : List ℕ) (taken b : ℕ) (and : Bool) (m : Made) (g : OpenBoard w
   opening_passed lc e = record {
     within = omega arith;
     going = h.going;
-    progress = cell_passed g.leaf g.outer g.parent b g.mine taken c g.of_leaf g.board lc w₁ m₁ e h.progress;
+    progress = cell_passed g.leaf g.parent b g.mine taken c g.of_leaf g.board lc w₁ m₁ e h.progress;
   }
 
   pub opening_done : 9 ≤ c → Progress g.leaf w₁ m₁ (moves_from g.leaf.node.pos (b * 9 + 9))
   opening_done n = progress_on (ap (moves_from g.leaf.node.pos) (omega (arith, h.within))) h.progress
 
 -- What the loop over a board asks for on which a move may end the game
-pub record EndingBoard (w : List ℕ) (o : Outer) (p : Parent) (mine taken b : ℕ) (m : Made) : Type 0 where
+pub record EndingBoard (w : List ℕ) (p : Parent) (mine taken b : ℕ) (m : Made) : Type 0 where
   pub leaf : Leaf
-  pub of_leaf : ParentOf leaf o p
+  pub of_leaf : ParentOf leaf p
   pub board : BoardOf leaf b mine taken
   pub progress : Progress leaf w m (moves_from leaf.node.pos (b * 9))
 
-module _ (w : List ℕ) (o : Outer) (p : Parent) (mine taken b : ℕ) (m : Made) (g : EndingBoard w o p mine taken b m) where
+module _ (w : List ℕ) (p : Parent) (mine taken b : ℕ) (m : Made) (g : EndingBoard w p mine taken b m) where
   pub ending_start : AtCell g.leaf w m b 0
   ending_start = progress_on (ap (moves_from g.leaf.node.pos) (omega arith)) g.progress
 
   module _ (c : ℕ) (w₁ : List ℕ) (m₁ : Made) (h : AtCell g.leaf w₁ m₁ b c) where
     pub ending_passed : c < 9 → has_bit taken c ≡ true → AtCell g.leaf w₁ m₁ b (c + 1)
-    ending_passed lc e = cell_passed g.leaf o p b mine taken c g.of_leaf g.board lc w₁ m₁ e h
+    ending_passed lc e = cell_passed g.leaf p b mine taken c g.of_leaf g.board lc w₁ m₁ e h
 
     -- At the last cell, or once the making has ended
     pub ending_done : c ≤ 9 → (9 ≤ c) ⊎ (m₁.ended ≡ true) → Progress g.leaf w₁ m₁ (moves_from g.leaf.node.pos (b * 9 + 9))
@@ -143,43 +141,42 @@ module _ (w : List ℕ) (o : Outer) (p : Parent) (mine taken b : ℕ) (m : Made)
     ending_done n (inr e) = progress_ended e (moves_from g.leaf.node.pos (b * 9 + 9)) h
 
     module _ (x : ℕ) (v : Verdict) (lc : c < 9) (e : has_bit taken c ≡ false) (n : m₁.ended ≡ false) (ex : x ≡ move_of b c)
-        (ev : (q : Position) → ChildOf q o mine taken b c → v ≡ (view (game p.rule (player_of p.attacker))).value (play q (move_of b c))) where
+        (ev : (q : Position) → ChildOf q p.outer mine taken b c → v ≡ (view (game p.rule (player_of p.attacker))).value (play q (move_of b c))) where
       -- The child's evaluation is the game's
       pub valued : v ≡ (view (game_at g.leaf)).value (play g.leaf.node.pos (move_of b c))
       valued =
           let q = play g.leaf.node.pos (move_of b c) in
-          ev g.leaf.node.pos (cell_child g.leaf o p b mine taken c g.of_leaf g.board lc e)
+          ev g.leaf.node.pos (cell_child g.leaf p b mine taken c g.of_leaf g.board lc e)
           ∙ ap (λ (r : ℕ). (view (game r (player_of p.attacker))).value q) g.of_leaf.rule_is
           ∙ ap (λ (s : Player). (view (game g.leaf.rule s)).value q) (ap player_of g.of_leaf.root_is ∙ side_back g.leaf.root)
 
       unfoldable pub ending_asks : Addable w₁ m₁ x v p.and
-      ending_asks = cell_addable g.leaf o p b mine taken c g.of_leaf g.board lc e w₁ m₁ x v p.and n ex valued refl h
+      ending_asks = cell_addable g.leaf p b mine taken c g.of_leaf g.board lc e w₁ m₁ x v p.and n ex valued refl h
 
       pub ending_step : (w₂ : List ℕ) (m₂ : Made) → Adds w₁ m₁ x v p.and w₂ m₂ → AtCell g.leaf w₂ m₂ b (c + 1)
       unfolding ending_asks cell_addable
       ending_step w₂ m₂ adds = (adds ending_asks).progress
 
 -- What the children on one board ask for: the position of the leaf stands in the words of positions, and the mover may play there
-pub record Playable (w ps : List ℕ) (o : Outer) (p : Parent) (b : ℕ) (m : Made) : Type 0 where
+pub record Playable (w ps : List ℕ) (p : Parent) (b : ℕ) (m : Made) : Type 0 where
   pub leaf : Leaf
-  pub of_leaf : ParentOf leaf o p
+  pub of_leaf : ParentOf leaf p
   pub stands : Holds leaf.node.pos ps p.base
   pub in_range : b < 9
   pub playing : Playing leaf.node.pos b
   pub going : m.ended ≡ false
   pub progress : Progress leaf w m (moves_from leaf.node.pos (b * 9))
 
-module _ (w ps : List ℕ) (o : Outer) (p : Parent) (b : ℕ) (m : Made) (g : Playable w ps o p b m) where
+module _ (w ps : List ℕ) (p : Parent) (b : ℕ) (m : Made) (g : Playable w ps p b m) where
   -- The board is not among those that are done
-  pub not_done : has_bit o.done b ≡ false
-  not_done = not-true (has_bit o.done b) (sym (board_test g.leaf.node.pos o.done b g.of_leaf.outer.done_is g.in_range) ∙ eq-eqb (code (board_states g.leaf.node.pos.cells) b) 0 g.playing.is_in_play)
+  pub not_done : has_bit p.outer.done b ≡ false
+  not_done = not-true (has_bit p.outer.done b) (sym (board_test g.leaf.node.pos p.outer.done b g.of_leaf.outer.done_is g.in_range) ∙ eq-eqb (code (board_states g.leaf.node.pos.cells) b) 0 g.playing.is_in_play)
 
   module _ (taken : ℕ) (et : (q : Position) → Holds q ps p.base → taken ≡ mask_of nonzero (board q.cells b)) where
     -- The side's own cells there matter for their number alone where no move can end the game
-    unfoldable pub asks_open : (r : Bool) → MayEnd o b r → r ≡ false → OpenBoard w taken b p.and m
+    unfoldable pub asks_open : (r : Bool) → MayEnd p.outer b r → r ≡ false → OpenBoard w taken b p.and m
     asks_open r e f = record {
       leaf = g.leaf;
-      outer = o;
       parent = p;
       mine = mask (mark g.leaf.node.pos.side) (board g.leaf.node.pos.cells b);
       of_leaf = g.of_leaf;
@@ -190,7 +187,7 @@ module _ (w ps : List ℕ) (o : Outer) (p : Parent) (b : ℕ) (m : Made) (g : Pl
       progress = g.progress;
     }
 
-    unfoldable pub asks_ending : (mine : ℕ) → ((q : Position) → Holds q ps p.base → o.side ≡ side_bit q.side → mine ≡ mask (mark q.side) (board q.cells b)) → EndingBoard w o p mine taken b m
+    unfoldable pub asks_ending : (mine : ℕ) → ((q : Position) → Holds q ps p.base → p.outer.side ≡ side_bit q.side → mine ≡ mask (mark q.side) (board q.cells b)) → EndingBoard w p mine taken b m
     asks_ending mine em = record {
       leaf = g.leaf;
       of_leaf = g.of_leaf;

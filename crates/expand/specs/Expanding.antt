@@ -23,7 +23,6 @@ use Rattle.words.proofs.States.{holds_expanded}
 use Rattle.prover.specs.declared.Prover.{Prover}
 use Rattle.prover.specs.declared.Ascent.{Ascent}
 use Rattle.prover.specs.Stands.{Stands, here, positions_same}
-use Rattle.children.specs.declared.Outer.{Outer}
 use Rattle.children.specs.Scalars.{OuterOf}
 use Rattle.expand.specs.declared.Made.{Made}
 use Rattle.expand.specs.declared.Parent.{Parent}
@@ -102,9 +101,9 @@ module _ (w path ps : List ℕ) (x : Prover) (rule root : ℕ) (g : Expandable w
     }
 
     -- k is the leaf's packed word
-    unfoldable pub unmade : (o : Outer) (q : Parent) (k : ℕ) → OuterOf p o → q.base ≡ x.depth * 24 → q.rule ≡ rule → q.attacker ≡ root → q.and ≡ not (eqb (and_in k) 1) → k ≡ word w id PACKED
-        → Unmade w ps o q m
-    unmade o q k r eb er es ea ek = record {
+    unfoldable pub unmade : (q : Parent) (k : ℕ) → OuterOf p q.outer → q.base ≡ x.depth * 24 → q.rule ≡ rule → q.attacker ≡ root → q.and ≡ not (eqb (and_in k) 1) → k ≡ word w id PACKED
+        → Unmade w ps q m
+    unmade q k r eb er es ea ek = record {
       leaf = leaf_at;
       of_leaf = record { outer = r; unfinished = unfinished; rule_is = er; root_is = es ∙ g.root_is; and_is = ea ∙ ap not (and_read k ek) };
       stands = leaf_stands_at q.base eb;

@@ -58,9 +58,11 @@ impl Made {
     }
 }
 
-// What all children of a leaf share: where its position stands, the rule, the attacker, who is the root's side, and whether the other side is to move at them.
+// What all children of a leaf share: what is read of its position and where that stands, the rule, the attacker, who is the root's side, and whether the other side
+// is to move at them.
 #[derive(Clone, Copy)]
 pub struct Parent {
+    pub outer: Outer,
     pub base: usize,
     pub rule: u64,
     pub attacker: usize,
@@ -108,10 +110,7 @@ fn add_open(words: &mut [u32], t: Siblings, mv: Move, and: bool) -> Siblings
 fn open_phi(phi: u32, more: u32) -> u32
     ensures { result ≡ cond (eqb more 0) phi (min phi 1) }
 {
-    if more == 0 {
-        return phi;
-    }
-    prove::least(phi, 1)
+    if more == 0 { phi } else { prove::least(phi, 1) }
 }
 
 // The numbers of the children that there were with those of the open ones: again a sum that no search has held.
@@ -124,7 +123,7 @@ fn open_numbers(m: Made, t: Siblings) -> Made
         siblings: t,
         phi: open_phi(m.phi, more),
         delta: prove::held_sum(m.delta, more),
-        ended: m.ended,
+        ..m
     }
 }
 
@@ -143,17 +142,9 @@ fn open_board(words: &mut [u32], taken: u16, b: usize, and: bool, start: Made) -
 }
 
 // The children on board b, where a move may end the game: each is evaluated, up to the first with delta 0.
-fn ending_board(
-    words: &mut [u32],
-    o: Outer,
-    p: Parent,
-    mine: u16,
-    taken: u16,
-    b: usize,
-    start: Made,
-) -> Made
-    requires { EndingBoard words.old o p mine taken b start }
-    ensures { (g : EndingBoard words.old o p mine taken b start) → Progress g.leaf words.new result (moves_from g.leaf.node.pos (b * 9 + 9)) }
+fn ending_board(words: &mut [u32], p: Parent, mine: u16, taken: u16, b: usize, start: Made) -> Made
+    requires { EndingBoard words.old p mine taken b start }
+    ensures { (g : EndingBoard words.old p mine taken b start) → Progress g.leaf words.new result (moves_from g.leaf.node.pos (b * 9 + 9)) }
 {
     let mut m = start;
     for c in 0..9 {
@@ -161,7 +152,7 @@ fn ending_board(
             break;
         }
         if !game::has(taken, c) {
-            let value = children::child_value(o, mine, taken, b, c, p.rule, p.attacker);
+            let value = children::child_value(p.outer, mine, taken, b, c, p.rule, p.attacker);
             m = add_child(words, m, Move::from_coords(b, c), value, p.and);
         }
     }
@@ -172,61 +163,48 @@ fn ending_board(
 fn board_children(
     words: &mut [u32],
     positions: &[u16; POSITIONS],
-    o: Outer,
     p: Parent,
     b: usize,
     m: Made,
 ) -> Made
-    requires { Playable words.old positions.now o p b m }
-    ensures { (g : Playable words.old positions.now o p b m) → Progress g.leaf words.new result (moves_from g.leaf.node.pos (b * 9 + 9)) }
+    requires { Playable words.old positions.now p b m }
+    ensures { (g : Playable words.old positions.now p b m) → Progress g.leaf words.new result (moves_from g.leaf.node.pos (b * 9 + 9)) }
 {
     let taken = children::taken_bits(positions, p.base, b);
-    if children::may_end(o, b) {
-        let mine = children::mine_bits(positions, p.base, o.side, b);
-        ending_board(words, o, p, mine, taken, b, m)
+    if children::may_end(p.outer, b) {
+        let mine = children::mine_bits(positions, p.base, p.outer.side, b);
+        ending_board(words, p, mine, taken, b, m)
     } else {
         open_board(words, taken, b, p.and, m)
     }
 }
 
 // The children with a free choice: on each board that is not done.
-fn free_children(
-    words: &mut [u32],
-    positions: &[u16; POSITIONS],
-    o: Outer,
-    p: Parent,
-    start: Made,
-) -> Made
-    requires { Unmade words.old positions.now o p start × (9 ≤ o.target) }
-    ensures { (g : Unmade words.old positions.now o p start) → Progress g.leaf words.new result [] }
+fn free_children(words: &mut [u32], positions: &[u16; POSITIONS], p: Parent, start: Made) -> Made
+    requires { Unmade words.old positions.now p start × (9 ≤ p.outer.target) }
+    ensures { (g : Unmade words.old positions.now p start) → Progress g.leaf words.new result [] }
 {
     let mut m = start;
     for b in 0..9 {
         if m.ended {
             break;
         }
-        if !game::has(o.done, b) {
-            m = board_children(words, positions, o, p, b, m);
+        if !game::has(p.outer.done, b) {
+            m = board_children(words, positions, p, b, m);
         }
     }
     m
 }
 
 // All children of a leaf.
-fn make_children(
-    words: &mut [u32],
-    positions: &[u16; POSITIONS],
-    o: Outer,
-    p: Parent,
-    start: Made,
-) -> Made
-    requires { Unmade words.old positions.now o p start }
-    ensures { (g : Unmade words.old positions.now o p start) → Progress g.leaf words.new result [] }
+fn make_children(words: &mut [u32], positions: &[u16; POSITIONS], p: Parent, start: Made) -> Made
+    requires { Unmade words.old positions.now p start }
+    ensures { (g : Unmade words.old positions.now p start) → Progress g.leaf words.new result [] }
 {
-    let target = o.target as usize;
+    let target = p.outer.target as usize;
     match target {
-        0..=8 => board_children(words, positions, o, p, target, start),
-        15 => free_children(words, positions, o, p, start),
+        0..=8 => board_children(words, positions, p, target, start),
+        15 => free_children(words, positions, p, start),
         _ => start,
     }
 }
@@ -270,14 +248,14 @@ pub fn expand(
 {
     let id = NodeID(path[x.depth]);
     let base = positions::base(x.depth);
-    let o = Outer::read(positions, base);
     let p = Parent {
+        outer: Outer::read(positions, base),
         base,
         rule,
         attacker,
         and: !node_pool::and_in(node_pool::packed(words, id)),
     };
-    let m = make_children(words, positions, o, p, Made::nothing(x.pool.vacant));
+    let m = make_children(words, positions, p, Made::nothing(x.pool.vacant));
     attach(words, id, m.siblings.last);
     Ascent {
         prover: count(x, m),

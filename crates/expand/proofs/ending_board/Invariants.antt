@@ -1,7 +1,6 @@
 -- `expand::ending_board` meets its contract: a cell a turn, while the making has not ended. Assumes nothing.
-use Prim.Native.Nat.{◌≤◌}
 use Rattle.expand.specs.Boards.{AtCell, EndingBoard}
 use Rattle.expand.proofs.ending_board.Given as goal
 
 abbrev pub invariant-loop-c : goal.invariant-loop-c
-invariant-loop-c l = (l.c ≤ 9) × ((g : EndingBoard l.initial.words l.o l.p l.mine l.taken l.b l.initial.m) → AtCell g.leaf l.words l.m l.b l.c)
+invariant-loop-c l = (g : EndingBoard l.initial.words l.p l.mine l.taken l.b l.initial.m) → AtCell g.leaf l.words l.m l.b l.c

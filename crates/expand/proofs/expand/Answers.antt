@@ -15,14 +15,14 @@ all_made : (c : After-make_children-m)
 unfolding unmade
 all_made c g =
     c.make_children-m.ensures
-    (unmade _ _ _ _ _ _ g _ c.nothing.ensures _ _ _ (c.read-o.ensures _ (leaf_stands_at _ _ _ _ _ _ g _ c.base-base.ensures)) c.base-base.ensures refl refl (ap not c.and_in.ensures) c.packed.ensures)
+    (unmade _ _ _ _ _ _ g _ c.nothing.ensures _ _ (c.read.ensures _ (leaf_stands_at _ _ _ _ _ _ g _ c.base-base.ensures)) c.base-base.ensures refl refl (ap not c.and_in.ensures) c.packed.ensures)
 
-pub read-o-requires : goal.read-o-requires
-read-o-requires c = (_, leaf_stands_at _ _ _ _ _ _ c.requires _ c.base-base.ensures)
+pub read-requires : goal.read-requires
+read-requires c = (_, leaf_stands_at _ _ _ _ _ _ c.requires _ c.base-base.ensures)
 
 pub make_children-m-requires : goal.make_children-m-requires
 make_children-m-requires c =
-    (unmade _ _ _ _ _ _ c.requires _ c.nothing.ensures _ _ _ (c.read-o.ensures _ (leaf_stands_at _ _ _ _ _ _ c.requires _ c.base-base.ensures)) c.base-base.ensures refl refl (ap not c.and_in.ensures) c.packed.ensures)
+    unmade _ _ _ _ _ _ c.requires _ c.nothing.ensures _ _ (c.read.ensures _ (leaf_stands_at _ _ _ _ _ _ c.requires _ c.base-base.ensures)) c.base-base.ensures refl refl (ap not c.and_in.ensures) c.packed.ensures
 
 pub attach-requires : goal.attach-requires
 attach-requires c =

@@ -1,7 +1,6 @@
 -- `expand::open_board` meets its contract: a cell a turn. Assumes nothing.
 use mathlib.Core.Path.{sym, ◌∙◌}
 use native.Mathlib.Omega.{arith}
-use borrow.Author.Tests.{not-true}
 use Rattle.expand.specs.Boards.{opening_start, opening_asks, opening_step, opening_passed, opening_done}
 use Rattle.expand.specs.Opened.{counting_start}
 use Rattle.expand.proofs.open_board.Goals.{then-not-has, else-not-has}
@@ -10,18 +9,9 @@ use Rattle.expand.proofs.open_board.Goals as goal
 pub loop-c-init : goal.loop-c-init
 loop-c-init c = (omega arith, λ g. rw (counting_start g.leaf _ _ _ g.progress) (opening_start _ _ _ _ _ g))
 
-pub has-requires : goal.has-requires
-has-requires c = omega (arith, c.loop-c-test.true)
-
-pub from_coords-requires : goal.from_coords-requires
-from_coords-requires c = (c.requires.board.in_range, c.loop-c-test.true)
-
 pub add_open-t-requires : goal.add_open-t-requires
 add_open-t-requires c =
-    (c.args.start, opening_asks _ _ _ _ _ c.requires _ _ c.loop-c-test.true (sym c.has.ensures ∙ not-true _ c.if-not-has.true-raw) c.from_coords.ensures _ _ (c.loop-c.invariant.1 c.requires))
-
-pub loop-c-smaller : goal.loop-c-smaller
-loop-c-smaller c = omega (arith, c.loop-c-test.true)
+    (c.args.start, opening_asks _ _ _ _ _ c.requires _ _ c.loop-c-test.true (sym c.has.ensures ∙ c.if-not-has.true) c.from_coords.ensures _ _ (c.loop-c.invariant.1 c.requires))
 
 pub open_numbers-requires : goal.open_numbers-requires
 open_numbers-requires c = c.loop-c.invariant.0
