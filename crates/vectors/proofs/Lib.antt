@@ -2,3 +2,4 @@ pub mod Compared
 pub mod Counted
 pub mod Lent
 pub mod Margins
+pub mod Words

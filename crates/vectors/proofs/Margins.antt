@@ -1,20 +1,19 @@
 -- Laws of what the contracts of `vectors::margin` cite. Rests on specs/Margins.antt.
-use Rattle.std.specs.Prelude.{ℕ, zero, suc, ◌+◌, ◌*◌, ◌%◌, ◌^◌, ◌<◌, ◌≤◌, ◌≡◌, refl, Bool, true, not, List, [], ◌∷◌, T, length, take, get_or, Float}
+use Rattle.std.specs.Prelude.{ℕ, zero, suc, ◌+◌, ◌*◌, ◌%◌, ◌^◌, ◌<◌, ◌≤◌, ◌≡◌, refl, Bool, true, not, List, [], ◌∷◌, T, length, take, get_or, Float, Result, Ok, Err}
 use Rattle.std.proofs.Common.{sym, subst, ◌∙◌, true≢false, le_of_suc-le-suc, not-suc-le-zero, lt_of_lt_of_le, add-one, arith, lt-ltb, le-ltb, pow_mono, pow-add}
 use Rattle.std.specs.Float.{nan, inf, fin, binary64}
 use Rattle.std.specs.Float.Ieee.{is_nan, nan_bits, of_bits}
 use Rattle.std.specs.Float.Ieee.Bits.{nan_bits_is, nan_bits_above}
 use Rattle.vectors.specs.Words.{hex_value}
 use Rattle.vectors.specs.Margins.{spelled, Digits, BitsOf}
-use Rattle.vectors.specs.declared.line.Number.{Number}
-use Rattle.vectors.specs.declared.line.Number.TheVariants.{Value, Unreadable}
+use Rattle.vectors.specs.declared.line.Unreadable.{Unreadable}
 
 -- Two laws of `BitsOf`, for those who took the number apart.
-pub bits_read : (xs : List ℕ) (place : ℕ) {r : Number} {n at : ℕ} → r ≡ Value n at → BitsOf xs place r → Digits xs × (n ≡ spelled 0 xs) × (at ≡ place)
-bits_read xs place e h = rw e at h
+pub bits_read : (xs : List ℕ) {r : Result ℕ Unreadable} {n : ℕ} → r ≡ Ok n → BitsOf xs r → Digits xs × (n ≡ spelled 0 xs)
+bits_read xs e h = rw e at h
 
-pub bits_unread : (xs : List ℕ) (place : ℕ) {r : Number} → r ≡ Unreadable → BitsOf xs place r → Digits xs → ⊥
-bits_unread xs place e h = rw e at h
+pub bits_unread : (xs : List ℕ) {r : Result ℕ Unreadable} {u : Unreadable} → r ≡ Err u → BitsOf xs r → Digits xs → ⊥
+bits_unread xs e h = rw e at h
 
 -- One more digit.
 spelled_suc : (xs : List ℕ) (i n : ℕ) → i < length xs → spelled n (take (suc i) xs) ≡ spelled n (take i xs) * 16 + hex_value (get_or xs i 0)

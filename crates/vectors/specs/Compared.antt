@@ -1,11 +1,9 @@
 -- What it is for a line to agree.
-use Rattle.std.specs.Prelude.{ℕ, ◌≡◌, List}
-use Rattle.vectors.specs.declared.answers.Stored.{Stored}
-use Rattle.vectors.specs.declared.answers.Stored.TheVariants.{Answer}
-use Rattle.vectors.specs.declared.answers.Outcome.{Outcome}
-use Rattle.vectors.specs.declared.answers.Outcome.TheVariants.{Agreed}
+use Rattle.std.specs.Prelude.{ℕ, ◌≡◌, Bool, true, List, Result, Ok}
+use Rattle.vectors.specs.declared.line.Unreadable.{Unreadable}
+use Rattle.vectors.specs.declared.answers.Answer.{Answer}
 
 -- A line agreed exactly if the stored answer is the one given, and the two outputs are the same.
-pub record Compared (stored : Stored) (code index number : ℕ) (want out : List ℕ) (r : Outcome) : Type 0 where
-  pub agreed : r ≡ Agreed → (stored ≡ Answer code index number) × (want ≡ out)
-  pub alike : stored ≡ Answer code index number → want ≡ out → r ≡ Agreed
+pub record Compared (stored : Result (Answer (List ℕ)) Unreadable) (given : Answer (List ℕ)) (want out : List ℕ) (r : Result Bool Unreadable) : Type 0 where
+  pub agreed : r ≡ Ok true → (stored ≡ Ok given) × (want ≡ out)
+  pub alike : stored ≡ Ok given → want ≡ out → r ≡ Ok true

@@ -1,19 +1,40 @@
 // What the list says of a call, and whether the library says the same.
-ghost use Rattle.std.specs.Prelude.{◌≡◌, length};
+ghost use Rattle.std.specs.Prelude.{◌≡◌, [], length};
 ghost use Rattle.vectors.specs.Words.{Counted};
 ghost use Rattle.vectors.specs.Compared.{Compared};
 
-use crate::line;
-use line::{Count, Number};
+use crate::line::{Line, Unreadable};
 
 // What an output holds before a call. No legal move is this byte.
 const PATTERN: u8 = 0xA5;
 
-// The answer that is stored: 0 or a refusal's number; the refusal's index, 0 with a result; and how many moves there are, or the number of a value or a full verdict, 0 elsewhere.
-#[derive(Clone, Copy)]
-pub enum Stored {
-    Answer(u64, u64, u64),
-    Unreadable,
+// An output that a call lends, or a part of.
+pub type Output = [u8; 256];
+
+// Whether a line's answer is the library's.
+pub type Outcome = Result<bool, Unreadable>;
+
+// An answer: 0 or a refusal's number; the refusal's index, 0 with a result; and a result, or what stands for it beside a refusal.
+#[derive(Clone, Copy, PartialEq, Eq)]
+pub struct Answer<T> {
+    pub code: u64,
+    pub index: u64,
+    pub value: T,
+}
+
+impl<T> Answer<T> {
+    // What a call gave, a refusal or a result.
+    pub fn given(code: u32, index: u64, value: T) -> Answer<T>
+        ensures code { result.code ≡ code }
+        ensures index { result.index ≡ index }
+        ensures value { result.value ≡ value }
+    {
+        Answer {
+            code: u64::from(code),
+            index,
+            value,
+        }
+    }
 }
 
 // What an answer that is no refusal has in its line: a record; a count and so many moves; a count and a record.
@@ -24,173 +45,121 @@ pub enum Form {
     Opening,
 }
 
-// What became of a line.
-#[derive(Clone, Copy)]
-pub enum Outcome {
-    Agreed,
-    Differs,
-    Unreadable,
-}
-
-// An answer that ends at a place, if its line does.
-pub fn ended(s: &[u8], at: usize, code: u64, index: u64, number: u64) -> Stored {
-    if at == s.len() {
-        Stored::Answer(code, index, number)
+// The answer that a line ends with: a refusal, beside which `refused` stands, or the result that `value_of` reads.
+pub fn stored<T, F: FnOnce(&mut Line<'_>) -> Result<T, Unreadable>>(
+    mut line: Line<'_>,
+    refused: T,
+    value_of: F,
+) -> Result<Answer<T>, Unreadable>
+where
+    T: Copy,
+    requires { F.IsAlwaysCallable value_of }
+{
+    let answer = if line.skip(b"refused") {
+        let [code, index]: [u64; 2] = line.numbers()?;
+        if code == 0 {
+            return Err(Unreadable);
+        }
+        Answer {
+            code,
+            index,
+            value: refused,
+        }
     } else {
-        Stored::Unreadable
-    }
-}
-
-// The refusal whose numbers follow a place.
-pub fn refusal(s: &[u8], at: usize) -> Stored {
-    let Number::Value(code, next) = line::read_number(s, at) else {
-        return Stored::Unreadable;
+        Answer {
+            code: 0,
+            index: 0,
+            value: value_of(&mut line)?,
+        }
     };
-    let Number::Value(index, place) = line::read_number(s, next) else {
-        return Stored::Unreadable;
-    };
-    if code == 0 {
-        return Stored::Unreadable;
-    }
-    ended(s, place, code, index, 0)
-}
-
-// The answer that gives the next word's bytes, as many as asked. They are put at the front of want.
-fn given(s: &[u8], at: usize, bytes: u64, number: u64, want: &mut [u8]) -> Stored {
-    let Count::Bytes(n, place) = line::read_bytes(s, at, want) else {
-        return Stored::Unreadable;
-    };
-    if n as u64 != bytes {
-        return Stored::Unreadable;
-    }
-    ended(s, place, 0, 0, number)
-}
-
-// The answer after a place: a refusal, or what the form says.
-fn read_answer(s: &[u8], at: usize, form: Form, want: &mut [u8]) -> Stored {
-    let w = line::next_word(s, at);
-    if line::is_word(s, w, b"refused") {
-        return refusal(s, w.end);
-    }
-    if let Form::Record = form {
-        return given(s, at, 21, 0, want);
-    }
-    let Number::Value(count, next) = line::read_number(s, at) else {
-        return Stored::Unreadable;
-    };
-    if let Form::Moves = form {
-        return given(s, next, count, count, want);
-    }
-    given(s, next, 21, count, want)
-}
-
-// The answer after a place: a refusal; or a value, 1 for True and 2 for False; or that the book holds none, 0.
-fn read_value(s: &[u8], at: usize) -> Stored {
-    let w = line::next_word(s, at);
-    if line::is_word(s, w, b"refused") {
-        return refusal(s, w.end);
-    }
-    if line::is_word(s, w, b"True") {
-        return ended(s, w.end, 0, 0, 1);
-    }
-    if line::is_word(s, w, b"False") {
-        return ended(s, w.end, 0, 0, 2);
-    }
-    if line::is_word(s, w, b"notheld") {
-        return ended(s, w.end, 0, 0, 0);
-    }
-    Stored::Unreadable
-}
-
-// A length and a place, if `most` is as long.
-fn within(n: u64, place: usize, most: &[u8]) -> Count
-    ensures { Counted result most.now }
-{
-    if n <= most.len() as u64 {
-        Count::Bytes(n as usize, place)
-    } else {
-        Count::Unreadable
-    }
-}
-
-// The length of the output that a call lends, at most that of `most`, and the place after the arrow. A line may leave the usual length out.
-pub fn output_length(s: &[u8], at: usize, usual: u64, most: &[u8]) -> Count
-    ensures { Counted result most.now }
-{
-    let w = line::next_word(s, at);
-    if line::is_word(s, w, b"=>") {
-        return within(usual, w.end, most);
-    }
-    let Number::Value(n, next) = line::read_number(s, at) else {
-        return Count::Unreadable;
-    };
-    let arrow = line::next_word(s, next);
-    if line::is_word(s, arrow, b"=>") {
-        return within(n, arrow.end, most);
-    }
-    Count::Unreadable
-}
-
-// An output as it is before a call.
-pub fn untouched() -> [u8; 256]
-    ensures { 256 ≡ length result }
-{
-    [PATTERN; 256]
+    line.end()?;
+    Ok(answer)
 }
 
 // Whether the answers are the same, and the outputs in every byte.
-fn compare(
-    stored: Stored,
-    code: u64,
-    index: u64,
-    number: u64,
-    want: &[u8; 256],
-    out: &[u8; 256],
+fn compare<const N: usize>(
+    stored: Result<Answer<[u64; N]>, Unreadable>,
+    given: Answer<[u64; N]>,
+    want: &[u8],
+    out: &[u8],
 ) -> Outcome
-    ensures { Compared stored code index number want.now out.now result }
+    ensures { Compared stored.entry given.entry want.now out.now result }
 {
-    let Stored::Answer(c, i, n) = stored else {
-        return Outcome::Unreadable;
-    };
-    if c != code {
-        return Outcome::Differs;
-    }
-    if i != index {
-        return Outcome::Differs;
-    }
-    if n != number {
-        return Outcome::Differs;
-    }
-    if want == out {
-        Outcome::Agreed
+    Ok(stored? == given && want == out)
+}
+
+// Compares what a call gave with the answer that is stored. No bytes were lent.
+pub fn settle<const N: usize>(
+    stored: Result<Answer<[u64; N]>, Unreadable>,
+    given: Answer<[u64; N]>,
+) -> Outcome
+    ensures { Compared stored.entry given.entry [] [] result }
+{
+    compare(stored, given, &[], &[])
+}
+
+// Puts the bytes that the next word spells, as many as asked, at the front of want.
+fn read_exactly(line: &mut Line<'_>, bytes: u64, want: &mut Output) -> Result<(), Unreadable> {
+    if line.bytes(want)? as u64 == bytes {
+        Ok(())
     } else {
-        Outcome::Differs
+        Err(Unreadable)
     }
 }
 
-// Compares what a call gave with the answer after a place.
-pub fn settle(
-    s: &[u8],
-    at: usize,
-    form: Form,
-    code: u64,
-    index: u64,
-    number: u64,
-    out: &[u8; 256],
-) -> Outcome {
+// What the form says of a result: its number, 0 where there is none, and the bytes that are put into want.
+fn read_output(line: &mut Line<'_>, form: Form, want: &mut Output) -> Result<[u64; 1], Unreadable> {
+    let number = match form {
+        Form::Record => 0,
+        Form::Moves | Form::Opening => line.number()?,
+    };
+    let bytes = match form {
+        Form::Moves => number,
+        Form::Record | Form::Opening => 21,
+    };
+    read_exactly(line, bytes, want)?;
+    Ok([number])
+}
+
+// Compares what a call gave, and the output that it was lent, with the answer that a line ends with.
+pub fn settle_output(line: Line<'_>, form: Form, given: Answer<[u64; 1]>, out: &Output) -> Outcome {
     let mut want = untouched();
-    let stored = read_answer(s, at, form, &mut want);
-    compare(stored, code, index, number, &want, out)
+    let stored = stored(line, [0], |line| read_output(line, form, &mut want));
+    compare(stored, given, &want, out)
 }
 
-// Compares the numbers that a call gave with those that are stored. No bytes were lent.
-pub fn settle_numbers(stored: Stored, code: u64, index: u64, number: u64) -> Outcome {
-    let none = untouched();
-    compare(stored, code, index, number, &none, &none)
+// Compares the value that a call gave, 1 for True, 2 for False, 0 if the book holds none, with the answer that a line ends with.
+pub fn settle_value(line: Line<'_>, given: Answer<[u64; 1]>) -> Outcome {
+    let stored = stored(line, [0], |line| match line.word()? {
+        b"notheld" => Ok([0]),
+        b"True" => Ok([1]),
+        b"False" => Ok([2]),
+        _ => Err(Unreadable),
+    });
+    settle(stored, given)
 }
 
-// Compares the value that a call gave with the answer after a place.
-pub fn settle_value(s: &[u8], at: usize, code: u64, index: u64, value: u64) -> Outcome {
-    let stored = read_value(s, at);
-    settle_numbers(stored, code, index, value)
+// The length of the output that a call lends, at most that of `most`, and the arrow. A line may leave the usual length out.
+pub fn output_length(line: &mut Line<'_>, usual: u64, most: &Output) -> Result<usize, Unreadable>
+    ensures { Counted result most.now }
+{
+    let n = if line.skip(b"=>") {
+        usual
+    } else {
+        let n = line.number()?;
+        line.expect(b"=>")?;
+        n
+    };
+    if n <= most.len() as u64 {
+        Ok(n as usize)
+    } else {
+        Err(Unreadable)
+    }
+}
+
+// An output as it is before a call.
+pub fn untouched() -> Output
+    ensures { 256 ≡ length result }
+{
+    [PATTERN; 256]
 }

@@ -1,119 +1,66 @@
-// The call on up to eight games: it reads the rest of its line, from the place after the records on, and runs the call.
-ghost use Rattle.std.specs.Prelude.{◌<◌, ◌≡◌, true};
+// The call on up to eight games: it reads the rest of its line, after the records, and runs the call.
+ghost use Rattle.std.specs.Prelude.{◌<◌};
 
-use crate::search_lines::Reading;
+use crate::answers::{Answer, Outcome};
+use crate::fields::Fields;
+use crate::line::{Line, Unreadable};
 use crate::{answers, fields, line, margin, search_lines};
-use answers::{Outcome, Stored};
-use fields::Place;
-use line::Number;
-use margin::Margin;
-use ultimattt::exports::ResultFields;
 use ultimattt::games_exports::GamesAnswer;
 
-// The fields of eight results, nine for each.
-type AllFields = [u64; 72];
+// How many games there are, and the fields of eight results, nine for each: past the last game all are 0.
+type AllNumbers = [u64; 73];
 
 // Puts the fields of a game's result into their places.
-fn put_fields(all: &mut AllFields, game: usize, one: &[u64; 9])
+fn put_fields(all: &mut AllNumbers, game: usize, one: &Fields)
     requires { game < 8 }
 {
-    let mut i: usize = 0;
-    while i < 9 {
-        all[game * 9 + i] = one[i];
-        i += 1;
-    }
+    let start = 1 + game * 9;
+    all[start..start + 9].copy_from_slice(one);
 }
 
-// The fields of all results in a line's order.
-fn all_numbers(results: [ResultFields; 8]) -> AllFields {
-    let mut all = [0u64; 72];
-    let mut i: usize = 0;
-    while i < 8 {
-        let r = results[i];
-        let one = fields::numbers(r);
-        put_fields(&mut all, i, &one);
-        i += 1;
+// The count and the fields that the library gives.
+fn all_numbers(got: &GamesAnswer) -> AllNumbers {
+    let mut all = [0; 73];
+    all[0] = got.count;
+    for (game, one) in got.results.iter().enumerate() {
+        put_fields(&mut all, game, &fields::numbers(*one));
     }
     all
 }
 
-// Puts the eight numbers that a word spells, with commas between, into shares. Whether the word is of this form.
-fn spell_shares(word: &[u8], shares: &mut [u64; 8]) -> bool {
-    let mut at: usize = 0;
-    let mut i: usize = 0;
-    while i < 8 {
-        if word.len() < at {
-            return false;
+// The eight numbers that the next word spells, with commas between.
+fn read_shares(line: &mut Line<'_>) -> Result<[u64; 8], Unreadable> {
+    let word = line.word()?;
+    let mut parts = word.split(|b| *b == b',');
+    let mut shares = [0; 8];
+    for share in shares.iter_mut() {
+        *share = line::number_of(parts.next().ok_or(Unreadable)?)?;
+    }
+    match parts.next() {
+        None => Ok(shares),
+        Some(_) => Err(Unreadable),
+    }
+}
+
+// Results up to the line's end, eight at most, with bars between.
+fn read_results(line: &mut Line<'_>) -> Result<AllNumbers, Unreadable> {
+    let mut all = [0; 73];
+    put_fields(&mut all, 0, &fields::read(line)?);
+    all[0] = 1;
+    for game in 1..8 {
+        if line.end().is_ok() {
+            break;
         }
-        let end = line::find(word, at, b',');
-        let Number::Value(n, _) = line::number_of(&word[at..end], end) else {
-            return false;
-        };
-        shares[i] = n;
-        at = end + 1;
-        i += 1;
+        put_fields(&mut all, game, &fields::read_barred(line)?);
+        all[0] = game as u64 + 1;
     }
-    word.len() < at
+    Ok(all)
 }
 
-// `S1,..,S8 [MARGIN] =>`. The numbers are put into shares.
-fn read_shares(s: &[u8], at: usize, shares: &mut [u64; 8]) -> Margin {
-    let list = line::next_word(s, at);
-    let start = list.start;
-    let end = list.end;
-    if spell_shares(&s[start..end], shares) {
-        return margin::read(s, end);
-    }
-    Margin::Unreadable
-}
-
-// The results after a place, with bars between. Their fields are put into want, and the answer's number is how many they are.
-fn read_results(s: &[u8], at: usize, want: &mut AllFields) -> Stored {
-    let mut one = [0u64; 9];
-    let Place::At(first) = fields::read_fields(s, at, &mut one) else {
-        return Stored::Unreadable;
-    };
-    put_fields(want, 0, &one);
-    let mut place = first;
-    let mut i: usize = 1;
-    while i < 8 {
-        if place == s.len() {
-            return Stored::Answer(0, 0, i as u64);
-        }
-        let Place::At(end) = fields::read_barred(s, place, &mut one) else {
-            return Stored::Unreadable;
-        };
-        put_fields(want, i, &one);
-        place = end;
-        i += 1;
-    }
-    answers::ended(s, place, 0, 0, 8)
-}
-
-// The answer after a place: a refusal, or results.
-fn read_games(s: &[u8], at: usize, want: &mut AllFields) -> Stored {
-    let w = line::next_word(s, at);
-    if line::is_word(s, w, b"refused") {
-        return answers::refusal(s, w.end);
-    }
-    read_results(s, at, want)
-}
-
-// Whether eight results have the same fields.
-fn same(a: &AllFields, b: &AllFields) -> bool
-    ensures { (result ≡ true → a.now ≡ b.now) × (a.now ≡ b.now → result ≡ true) }
-{
-    fields::same_numbers(a, b)
-}
-
-// Compares what the call gave with the answer after a place. Past the last game all fields are 0, and with a refusal the count and all fields are.
-fn settle_games(s: &[u8], at: usize, got: GamesAnswer) -> Outcome {
-    let mut want = [0u64; 72];
-    let stored = read_games(s, at, &mut want);
-    let results = got.results;
-    let given = all_numbers(results);
-    let outcome = answers::settle_numbers(stored, got.code as u64, got.index, got.count);
-    search_lines::if_also(outcome, same(&want, &given))
+// Compares what the call gave with the answer that a line ends with. With a refusal the count and all fields are 0.
+fn settle_games(line: Line<'_>, got: &GamesAnswer) -> Outcome {
+    let given = Answer::given(got.code, got.index, all_numbers(got));
+    answers::settle(answers::stored(line, [0; 73], read_results), given)
 }
 
 // The first word of a pool that a call on so many games may not write: the first past their parts, of as many whole nodes each. A refusal's count is 0, and the word the first of all.
@@ -126,33 +73,23 @@ fn closed_after(count: u64, words: usize) -> usize {
 }
 
 // `eight RECORDS RULE POOL-NODES LIMIT ALLOWANCE INTERVAL S1,..,S8 [MARGIN] => RESULTS`
-pub fn judge(s: &[u8], at: usize, records: &[u8]) -> Outcome {
-    let Number::Value(rule, next) = line::read_number(s, at) else {
-        return Outcome::Unreadable;
-    };
-    let Reading::Read(x) = search_lines::read_limits(s, next) else {
-        return Outcome::Unreadable;
-    };
-    let mut shares = [0u64; 8];
-    let Margin::Read(m) = read_shares(s, x.place, &mut shares) else {
-        return Outcome::Unreadable;
-    };
-    let words = x.words;
+pub fn judge(mut line: Line<'_>, records: &[u8]) -> Outcome {
+    let rule = line.number()?;
+    let x = search_lines::read_limits(&mut line)?;
+    let shares = read_shares(&mut line)?;
+    let margin = margin::read(&mut line)?;
     let mut pool = fields::fresh_pool();
     let got = ultimattt::games_exports::uttt_judge_games(
         records,
-        &mut pool[..words],
+        &mut pool[..x.words],
         &shares,
         rule,
         x.limit,
         x.budget,
         x.interval,
-        m.staying,
-        m.margin,
+        margin.is_some(),
+        margin.unwrap_or(0.0),
     );
-    let outcome = settle_games(s, m.place, got);
-    search_lines::if_also(
-        outcome,
-        fields::untouched(&pool, closed_after(got.count, words)),
-    )
+    let closed = closed_after(got.count, x.words);
+    Ok(settle_games(line, &got)? && fields::untouched(&pool, closed))
 }

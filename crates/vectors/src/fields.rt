@@ -2,132 +2,68 @@
 ghost use Rattle.std.specs.Prelude.{◌≡◌, true, length};
 ghost use Rattle.vectors.specs.Pools.{Kept};
 
-use crate::line;
-use line::Number;
+use crate::line::{Line, Unreadable};
 use ultimattt::exports::ResultFields;
 
 // What a pool's words hold before a call.
 const PATTERN: u32 = 0xA5A5A5A5;
 
-// A place in a line, if all before it could be read.
-#[derive(Clone, Copy)]
-pub enum Place {
-    At(usize),
-    Unreadable,
-}
+// The words of the largest pool that is lent, whose nodes are 4096: five for each, and four more.
+pub type Pool = [u32; 20484];
 
-// The fields of a result in a line's order. A verdict is 0 for Unknown, 1 for True, 2 for False.
-pub fn numbers(r: ResultFields) -> [u64; 9] {
+// The fields of a result in a line's order.
+pub type Fields = [u64; 9];
+
+// The fields as the library gives them. A verdict is 0 for Unknown, 1 for True, 2 for False.
+pub fn numbers(r: ResultFields) -> Fields {
     [
-        r.verdict as u64,
-        r.proof as u64,
-        r.disproof as u64,
+        u64::from(r.verdict),
+        u64::from(r.proof),
+        u64::from(r.disproof),
         r.allocated,
         r.freed,
         r.proved,
         r.disproved,
         r.expanded,
-        r.cause as u64,
+        u64::from(r.cause),
     ]
 }
 
 // The verdict that the next word names.
-pub fn read_verdict(s: &[u8], at: usize) -> Number {
-    let w = line::next_word(s, at);
-    let end = w.end;
-    if line::is_word(s, w, b"Unknown") {
-        return Number::Value(0, end);
+pub fn read_verdict(line: &mut Line<'_>) -> Result<u64, Unreadable> {
+    match line.word()? {
+        b"Unknown" => Ok(0),
+        b"True" => Ok(1),
+        b"False" => Ok(2),
+        _ => Err(Unreadable),
     }
-    if line::is_word(s, w, b"True") {
-        return Number::Value(1, end);
-    }
-    if line::is_word(s, w, b"False") {
-        return Number::Value(2, end);
-    }
-    Number::Unreadable
 }
 
-// Puts the numbers after a place into want, from `first` on to its end.
-pub fn read_numbers(s: &[u8], at: usize, first: usize, want: &mut [u64]) -> Place {
-    let mut place = at;
-    let mut i = first;
-    while i < want.len() {
-        let Number::Value(n, after) = line::read_number(s, place) else {
-            return Place::Unreadable;
-        };
-        want[i] = n;
-        place = after;
-        i += 1;
-    }
-    Place::At(place)
+// The nine fields that follow.
+pub fn read(line: &mut Line<'_>) -> Result<Fields, Unreadable> {
+    let mut all = [0; 9];
+    all[0] = read_verdict(line)?;
+    let rest: [u64; 8] = line.numbers()?;
+    all[1..].copy_from_slice(&rest);
+    Ok(all)
 }
 
-// Puts the nine fields after a place into want.
-pub fn read_fields(s: &[u8], at: usize, want: &mut [u64; 9]) -> Place {
-    let Number::Value(verdict, next) = read_verdict(s, at) else {
-        return Place::Unreadable;
-    };
-    want[0] = verdict;
-    read_numbers(s, next, 1, want)
-}
-
-// Puts the nine fields after a bar into want.
-pub fn read_barred(s: &[u8], at: usize, want: &mut [u64; 9]) -> Place {
-    let bar = line::next_word(s, at);
-    if line::is_word(s, bar, b"|") {
-        return read_fields(s, bar.end, want);
-    }
-    Place::Unreadable
-}
-
-// Whether two lists have the same numbers.
-pub fn same_numbers(a: &[u64], b: &[u64]) -> bool
-    ensures { (result ≡ true → a.now ≡ b.now) × (a.now ≡ b.now → result ≡ true) }
-{
-    if a.len() != b.len() {
-        return false;
-    }
-    let mut i: usize = 0;
-    while i < a.len() {
-        if a[i] != b[i] {
-            return false;
-        }
-        i += 1;
-    }
-    true
-}
-
-// Whether two results have the same fields.
-pub fn same(a: &[u64; 9], b: &[u64; 9]) -> bool
-    ensures { (result ≡ true → a.now ≡ b.now) × (a.now ≡ b.now → result ≡ true) }
-{
-    same_numbers(a, b)
+// The nine fields after a bar.
+pub fn read_barred(line: &mut Line<'_>) -> Result<Fields, Unreadable> {
+    line.expect(b"|")?;
+    read(line)
 }
 
 // A pool as it is before a call.
-pub fn fresh_pool() -> [u32; 20484]
+pub fn fresh_pool() -> Pool
     ensures { 20484 ≡ length result }
 {
     [PATTERN; 20484]
 }
 
-// Whether words hold the pattern from a place on.
-fn hold_pattern(words: &[u32], from: usize) -> bool
-    ensures { result ≡ true → Kept words.now from 2779096485 }
+// Whether a pool is as before the call from a word on.
+pub fn untouched(pool: &Pool, from: usize) -> bool
+    ensures { result ≡ true → Kept pool.now from PATTERN }
 {
-    let mut i = from;
-    while i < words.len() {
-        if words[i] != PATTERN {
-            return false;
-        }
-        i += 1;
-    }
-    true
-}
-
-// Whether a pool is as before the call from a place on.
-pub fn untouched(pool: &[u32; 20484], from: usize) -> bool
-    ensures { result ≡ true → Kept pool.now from 2779096485 }
-{
-    hold_pattern(pool, from)
+    pool.iter().skip(from).all(|word| *word == PATTERN)
 }

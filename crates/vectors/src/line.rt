@@ -1,157 +1,147 @@
-// A line of the stored list as words with one space between: where a word stands, and the numbers and bytes that words spell.
-//
-// A place in a line is where a word ended: the next word follows the space there.
-ghost use Rattle.std.specs.Prelude.{◌≤◌, ◌≡◌, true, length};
-ghost use Rattle.vectors.specs.Words.{First, Inside, word_of, hex_value, Counted};
+// A line of the stored list, which has words with one space between: its words in turn, and the numbers and bytes that words spell.
+ghost use Rattle.std.specs.Prelude.{◌≡◌, true, false, drop, get_or, length, ℕ, List, IfOk, IfErr};
+ghost use Rattle.vectors.specs.Words.{First, Leads, DigitOf, Counted};
 
-// The bytes of a word stand from start on, up to end.
+// That a line is not as it should be.
+#[derive(Clone, Copy, PartialEq, Eq)]
+pub struct Unreadable;
+
+// What stands after a word of a line: a space and the next word, or nothing.
 #[derive(Clone, Copy)]
-pub struct Word {
-    pub start: usize,
-    pub end: usize,
+pub struct Line<'a> {
+    pub rest: &'a [u8],
 }
 
-// How many bytes a word spells, and the place after it.
-#[derive(Clone, Copy)]
-pub enum Count {
-    Bytes(usize, usize),
-    Unreadable,
-}
-
-// The number that a word spells, and the place after it.
-#[derive(Clone, Copy)]
-pub enum Number {
-    Value(u64, usize),
-    Unreadable,
-}
-
-// The first place from `at` on where b stands, or the length.
-pub fn find(s: &[u8], at: usize, b: u8) -> usize
-    requires { at ≤ length s.now }
-    ensures { First s.now at b result }
+// The first place where b stands, or the length.
+pub fn find(s: &[u8], b: u8) -> usize
+    ensures { First s.now 0 b result }
 {
-    let mut i = at;
-    while i < s.len() {
-        if s[i] == b {
-            return i;
-        }
-        i += 1;
+    s.iter().position(|x| *x == b).unwrap_or(s.len())
+}
+
+// The first word of a text, and what stands after it.
+pub fn first_word(text: &[u8]) -> (&[u8], Line<'_>)
+    ensures { Leads text.now result.0.now result.1.rest.now }
+{
+    let (word, rest) = text.split_at(find(text, b' '));
+    (word, Line { rest })
+}
+
+impl<'a> Line<'a> {
+    // The next word, which follows a space.
+    pub fn word(&mut self) -> Result<&'a [u8], Unreadable>
+        ensures next { IfOk result (λ w. (get_or self.old.rest.now 0 0 ≡ 32) × Leads (drop 1 self.old.rest.now) w.now self.new.rest.now) }
+        ensures none { IfErr result (λ e. get_or self.old.rest.now 0 0 ≡ 32 → ⊥) }
+    {
+        let [b' ', text @ ..] = self.rest else {
+            return Err(Unreadable);
+        };
+        let (word, after) = first_word(text);
+        *self = after;
+        Ok(word)
     }
-    i
-}
 
-// The word that a line starts with.
-pub fn first_word(s: &[u8]) -> Word
-    ensures { Inside result s.now }
-{
-    let end = find(s, 0, b' ');
-    Word { start: 0, end }
-}
-
-// The word after a place; an empty one where no space stands there.
-pub fn next_word(s: &[u8], at: usize) -> Word
-    ensures { Inside result s.now }
-{
-    if at < s.len() {
-        if s[at] == b' ' {
-            let start = at + 1;
-            let end = find(s, start, b' ');
-            return Word { start, end };
+    // Passes the next word if it is the one asked for. Whether it is.
+    pub fn skip(&mut self, asked: &[u8]) -> bool
+        ensures found { result ≡ true → (get_or self.old.rest.now 0 0 ≡ 32) × Leads (drop 1 self.old.rest.now) asked.now self.new.rest.now }
+        ensures all { (rest : List ℕ) → get_or self.old.rest.now 0 0 ≡ 32 → Leads (drop 1 self.old.rest.now) asked.now rest → result ≡ true }
+        ensures other { result ≡ false → self.new ≡ self.old }
+    {
+        let mut after = *self;
+        match after.word() {
+            Ok(word) if word == asked => {
+                *self = after;
+                true
+            }
+            _ => false,
         }
     }
-    Word { start: 0, end: 0 }
+
+    // Passes the next word, which has to be the one asked for.
+    pub fn expect(&mut self, asked: &[u8]) -> Result<(), Unreadable>
+        ensures found { IfOk result (λ u. (get_or self.old.rest.now 0 0 ≡ 32) × Leads (drop 1 self.old.rest.now) asked.now self.new.rest.now) }
+        ensures none { IfErr result (λ e. (rest : List ℕ) → get_or self.old.rest.now 0 0 ≡ 32 → Leads (drop 1 self.old.rest.now) asked.now rest → ⊥) }
+    {
+        if self.skip(asked) {
+            Ok(())
+        } else {
+            Err(Unreadable)
+        }
+    }
+
+    // Passes the line's end, at which nothing is left.
+    pub fn end(&self) -> Result<(), Unreadable> {
+        if self.rest.is_empty() {
+            Ok(())
+        } else {
+            Err(Unreadable)
+        }
+    }
+
+    // The number that the next word spells.
+    pub fn number(&mut self) -> Result<u64, Unreadable> {
+        number_of(self.word()?)
+    }
+
+    // The numbers that as many words spell.
+    pub fn numbers<const N: usize>(&mut self) -> Result<[u64; N], Unreadable> {
+        let mut all = [0; N];
+        for n in all.iter_mut() {
+            *n = self.number()?;
+        }
+        Ok(all)
+    }
+
+    // Puts the bytes that the next word spells at the front of out; `-` is none. How many they are.
+    pub fn bytes(&mut self, out: &mut [u8]) -> Result<usize, Unreadable>
+        ensures { Counted result out.new }
+    {
+        match self.word()? {
+            b"-" => Ok(0),
+            word => spell(word, out),
+        }
+    }
 }
 
-// Whether a word is the one asked for.
-pub fn is_word(s: &[u8], w: Word, asked: &[u8]) -> bool
-    requires { Inside w s.now }
-    ensures { (result ≡ true → word_of w s.now ≡ asked.now) × (word_of w s.now ≡ asked.now → result ≡ true) }
-{
-    let start = w.start;
-    let end = w.end;
-    &s[start..end] == asked
-}
-
-// The value of a hexadecimal digit; 16 for any other byte.
-pub fn hex_value(b: u8) -> u8
-    ensures { result ≡ hex_value b }
+// The value of a hexadecimal digit.
+pub fn hex_value(b: u8) -> Result<u8, Unreadable>
+    ensures { DigitOf b result }
 {
     match b {
-        b'0'..=b'9' => b - b'0',
-        b'A'..=b'F' => b - b'A' + 10,
-        _ => 16,
+        b'0'..=b'9' => Ok(b - b'0'),
+        b'A'..=b'F' => Ok(b - b'A' + 10),
+        _ => Err(Unreadable),
     }
 }
 
-// Puts the bytes that digits spell, two for each, at the front of out. There is one at least, and out takes them all. `place` follows them.
-fn spell(digits: &[u8], place: usize, out: &mut [u8]) -> Count
+// Puts the bytes that digits spell, two for each, at the front of out. There is one at least, and out takes them all.
+fn spell(digits: &[u8], out: &mut [u8]) -> Result<usize, Unreadable>
     ensures { Counted result out.new }
 {
-    let n = digits.len() / 2;
-    if n == 0 {
-        return Count::Unreadable;
+    let (pairs, odd) = digits.as_chunks::<2>();
+    if pairs.is_empty() || !odd.is_empty() || out.len() < pairs.len() {
+        return Err(Unreadable);
     }
-    if out.len() < n {
-        return Count::Unreadable;
+    for (byte, [high, low]) in out.iter_mut().zip(pairs) {
+        *byte = hex_value(*high)? * 16 + hex_value(*low)?;
     }
-    if digits.len() != n * 2 {
-        return Count::Unreadable;
-    }
-    let mut i: usize = 0;
-    while i < n {
-        let high = hex_value(digits[i * 2]);
-        let low = hex_value(digits[i * 2 + 1]);
-        if 15 < high {
-            return Count::Unreadable;
-        }
-        if 15 < low {
-            return Count::Unreadable;
-        }
-        out[i] = high * 16 + low;
-        i += 1;
-    }
-    Count::Bytes(n, place)
+    Ok(pairs.len())
 }
 
-// Puts the bytes that the next word spells at the front of out; `-` is none.
-pub fn read_bytes(s: &[u8], at: usize, out: &mut [u8]) -> Count
-    ensures { Counted result out.new }
-{
-    let w = next_word(s, at);
-    if is_word(s, w, b"-") {
-        return Count::Bytes(0, w.end);
+// A number with one more digit, the last.
+fn with_digit(n: u64, b: u8) -> Result<u64, Unreadable> {
+    if !b.is_ascii_digit() {
+        return Err(Unreadable);
     }
-    let start = w.start;
-    let end = w.end;
-    spell(&s[start..end], end, out)
+    n.checked_mul(10)
+        .and_then(|tens| tens.checked_add(u64::from(b - b'0')))
+        .ok_or(Unreadable)
 }
 
-// The number that digits spell. There is one at least. `place` follows them.
-pub fn number_of(digits: &[u8], place: usize) -> Number {
-    if digits.len() == 0 {
-        return Number::Unreadable;
+// The number that digits spell. There is one at least.
+pub fn number_of(digits: &[u8]) -> Result<u64, Unreadable> {
+    if digits.is_empty() {
+        return Err(Unreadable);
     }
-    let mut n: u64 = 0;
-    let mut i: usize = 0;
-    while i < digits.len() {
-        let digit = hex_value(digits[i]);
-        if 9 < digit {
-            return Number::Unreadable;
-        }
-        let last = digit as u64;
-        if (u64::MAX - last) / 10 < n {
-            return Number::Unreadable;
-        }
-        n = n * 10 + last;
-        i += 1;
-    }
-    Number::Value(n, place)
-}
-
-// The number that the next word spells.
-pub fn read_number(s: &[u8], at: usize) -> Number {
-    let w = next_word(s, at);
-    let start = w.start;
-    let end = w.end;
-    number_of(&s[start..end], end)
+    digits.iter().try_fold(0, |n, b| with_digit(n, *b))
 }

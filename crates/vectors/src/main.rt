@@ -17,21 +17,16 @@ mod simulation;
 ghost use Rattle.std.specs.Prelude.{◌≤◌, ◌≡◌, length, IfOk};
 
 use answers::Outcome;
-use books::Bytes;
-use line::Count;
+use books::Book;
+use line::Unreadable;
 use std::io;
 
 // Runs a line. It starts with `book`, or with the call's name and a record, or a sheet.
-fn run_line(s: &[u8], bytes: &mut Bytes, length: &mut usize, count: &mut u64) -> Outcome {
-    let name = line::first_word(s);
-    if line::is_word(s, name, b"book") {
-        return books::run(s, name.end, bytes, length, count);
+fn run_line(text: &[u8], book: &mut Book) -> Outcome {
+    match line::first_word(text) {
+        (b"book", line) => books::run(line, book),
+        (name, line) => call_lines::run(name, line),
     }
-    let mut record = [0u8; 512];
-    let Count::Bytes(n, place) = line::read_bytes(s, name.end, &mut record) else {
-        return Outcome::Unreadable;
-    };
-    call_lines::run(s, name, place, &record[..n])
 }
 
 // Names a line that did not agree; gives 1 for one that did.
@@ -39,27 +34,24 @@ fn report(rt: &impl Print, number: u64, outcome: Outcome) -> io::Result<u64>
     ensures { IfOk result (λ n. n ≤ 1) }
 {
     match outcome {
-        Outcome::Agreed => return Ok(1),
-        Outcome::Differs => println!(rt; "line {number} differs")?,
-        Outcome::Unreadable => println!(rt; "line {number} can't be read")?,
+        Ok(true) => return Ok(1),
+        Ok(false) => println!(rt; "line {number} differs")?,
+        Err(Unreadable) => println!(rt; "line {number} can't be read")?,
     }
     Ok(0)
 }
 
 // Runs every line of the list. The book that is kept between them is at first one without bytes.
 fn run_list(rt: &impl Print, text: &[u8]) -> io::Result<()> {
-    let mut bytes = books::zeros();
-    let mut length: usize = 0;
-    let mut count: u64 = 0;
-    let mut at: usize = 0;
+    let mut book = Book::empty(0);
+    let mut rest = text;
     let mut lines: u64 = 0;
     let mut agreed: u64 = 0;
-    while at < text.len() {
-        let end = line::find(text, at, b'\n');
+    while !rest.is_empty() {
+        let (line, after) = rest.split_at(line::find(rest, b'\n'));
         lines += 1;
-        let outcome = run_line(&text[at..end], &mut bytes, &mut length, &mut count);
-        agreed += report(rt, lines, outcome)?;
-        at = end + 1;
+        agreed += report(rt, lines, run_line(line, &mut book))?;
+        rest = after.strip_prefix(b"\n").unwrap_or(after);
     }
     println!(rt; "{lines} lines, {agreed} agreed")
 }

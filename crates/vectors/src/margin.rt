@@ -5,7 +5,7 @@ ghost use Rattle.std.specs.Float.Ieee.{of_bits};
 ghost use Rattle.vectors.specs.Margins.{BitsOf, MarginOf};
 
 use crate::line;
-use line::Number;
+use line::{Line, Unreadable};
 
 // An infinity's bits without the sign. A NaN's are above them.
 const INFINITY: u64 = 0x7FF0000000000000;
@@ -13,38 +13,18 @@ const INFINITY: u64 = 0x7FF0000000000000;
 // The weight of the sign.
 const SIGN: u64 = 0x8000000000000000;
 
-// Whether to stay; the margin, 0.0 if not; and the place after the arrow.
-#[derive(Clone, Copy)]
-pub struct Staying {
-    pub staying: bool,
-    pub margin: f64,
-    pub place: usize,
-}
-
-#[derive(Clone, Copy)]
-pub enum Margin {
-    Read(Staying),
-    Unreadable,
-}
-
-// The number that sixteen digits spell, with `place`.
-fn bits_of(digits: &[u8], place: usize) -> Number
-    ensures { BitsOf digits.now place result }
+// The number that sixteen digits spell.
+fn bits_of(digits: &[u8]) -> Result<u64, Unreadable>
+    ensures { BitsOf digits.now result }
 {
     if digits.len() != 16 {
-        return Number::Unreadable;
+        return Err(Unreadable);
     }
     let mut n: u64 = 0;
-    let mut i: usize = 0;
-    while i < 16 {
-        let digit = line::hex_value(digits[i]);
-        if 15 < digit {
-            return Number::Unreadable;
-        }
-        n = n * 16 + digit as u64;
-        i += 1;
+    for b in digits {
+        n = n * 16 + line::hex_value(*b)? as u64;
     }
-    Number::Value(n, place)
+    Ok(n)
 }
 
 // The float whose bits are n. `from_bits` takes no NaN's: they all give the same NaN.
@@ -57,43 +37,23 @@ fn float_of(n: u64) -> f64
     f64::from_bits(n)
 }
 
-// The margin that sixteen digits spell, with `place`.
-fn margin_of(digits: &[u8], place: usize) -> Margin
-    ensures { MarginOf digits.now place result }
+// The margin that sixteen digits spell.
+fn margin_of(digits: &[u8]) -> Result<Option<f64>, Unreadable>
+    ensures { MarginOf digits.now result }
 {
-    let Number::Value(n, after) = bits_of(digits, place) else {
-        return Margin::Unreadable;
+    Ok(Some(float_of(bits_of(digits)?)))
+}
+
+// `[MARGIN] =>`. No margin is off.
+pub fn read(line: &mut Line<'_>) -> Result<Option<f64>, Unreadable> {
+    if line.skip(b"=>") {
+        return Ok(None);
+    }
+    let margin = if line.skip(b"off") {
+        None
+    } else {
+        margin_of(line.word()?)?
     };
-    Margin::Read(Staying {
-        staying: true,
-        margin: float_of(n),
-        place: after,
-    })
-}
-
-// No margin.
-fn off(place: usize) -> Margin {
-    Margin::Read(Staying {
-        staying: false,
-        margin: 0.0,
-        place,
-    })
-}
-
-// `[MARGIN] =>`. The place is that after the arrow.
-pub fn read(s: &[u8], at: usize) -> Margin {
-    let w = line::next_word(s, at);
-    if line::is_word(s, w, b"=>") {
-        return off(w.end);
-    }
-    let start = w.start;
-    let end = w.end;
-    let arrow = line::next_word(s, end);
-    if !line::is_word(s, arrow, b"=>") {
-        return Margin::Unreadable;
-    }
-    if line::is_word(s, w, b"off") {
-        return off(arrow.end);
-    }
-    margin_of(&s[start..end], arrow.end)
+    line.expect(b"=>")?;
+    Ok(margin)
 }

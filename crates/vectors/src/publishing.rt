@@ -1,97 +1,57 @@
 // The call publish, and the byte of the book's array that it should change. The entry is looked for here, by a plain scan, not by the library.
-ghost use Rattle.std.specs.Prelude.{◌≤◌, ◌<◌, length};
-
-use crate::{answers, books, line};
-use answers::{Outcome, Stored};
-use books::Bytes;
+use crate::answers;
+use crate::answers::{Answer, Outcome};
+use crate::books::{Asked, Book};
+use crate::line::{Line, Unreadable};
 
 // Whether a last byte has a verdict, True or False, under a rule.
 fn has_verdict(last: u8, rule: u64) -> bool {
-    if (last / 64) as u64 != rule {
-        return false;
-    }
-    match last / 16 % 4 {
-        1 | 2 => true,
-        _ => false,
+    u64::from(last / 64) == rule && matches!(last / 16 % 4, 1 | 2)
+}
+
+// Whether an entry, a record and a last byte, holds a pair.
+fn holds(entry: &[u8], x: Asked<'_>) -> bool {
+    match entry.split_last() {
+        Some((last, record)) => record == x.record && has_verdict(*last, x.rule),
+        None => false,
     }
 }
 
-// Whether the entry whose last byte stands at a place holds a pair.
-fn holds(book: &[u8], place: usize, record: &[u8], rule: u64) -> bool
-    requires { (21 ≤ place) × (place < length book.now) }
-{
-    let start = place - 21;
-    if &book[start..place] == record {
-        has_verdict(book[place], rule)
-    } else {
-        false
-    }
-}
-
-// Where the last byte of the first used entry that holds a pair stands; the array's length if there is none.
-fn find_last(book: &[u8], count: u64, record: &[u8], rule: u64) -> usize {
-    let mut unseen = count;
-    let mut place: usize = 21;
-    while place < book.len() {
-        if unseen == 0 {
-            return book.len();
+// Marks the first used entry that holds a pair in the book as it should be, if there is one: its last byte gets its lowest bit.
+fn put_mark(want: &mut Book, x: Asked<'_>) {
+    let count = want.count;
+    for (i, entry) in want.bytes.chunks_exact_mut(22).enumerate() {
+        if count <= i as u64 {
+            return;
         }
-        if holds(book, place, record, rule) {
-            return place;
+        if holds(entry, x) {
+            entry[21] |= 1;
+            return;
         }
-        unseen -= 1;
-        place += 22;
-    }
-    book.len()
-}
-
-// A last byte with its lowest bit set.
-fn marked(last: u8) -> u8 {
-    last / 2 * 2 + 1
-}
-
-// Marks the first used entry that holds a pair in the book as it should be, if there is one.
-fn put_mark(want: &mut Bytes, count: u64, record: &[u8], rule: u64) {
-    let place = find_last(want, count, record, rule);
-    if place < want.len() {
-        want[place] = marked(want[place]);
     }
 }
 
-// The answer after a place: a refusal; or that the entry is published, 1; or that the book holds none, 0.
-fn read_published(s: &[u8], at: usize) -> Stored {
-    let w = line::next_word(s, at);
-    if line::is_word(s, w, b"refused") {
-        return answers::refusal(s, w.end);
-    }
-    if line::is_word(s, w, b"published") {
-        return answers::ended(s, w.end, 0, 0, 1);
-    }
-    if line::is_word(s, w, b"notheld") {
-        return answers::ended(s, w.end, 0, 0, 0);
-    }
-    Stored::Unreadable
-}
-
-// `book publish WHO RECORD RULE => published`, from the arrow on.
-pub fn publish(
-    s: &[u8],
-    at: usize,
-    trainer: bool,
-    book: &mut [u8],
-    count: u64,
-    record: &[u8],
-    rule: u64,
-    want: &mut Bytes,
-) -> Outcome {
-    let arrow = line::next_word(s, at);
-    if !line::is_word(s, arrow, b"=>") {
-        return Outcome::Unreadable;
-    }
-    let got = ultimattt::book_exports::uttt_book_publish(trainer, book, count, record, rule);
+// `book publish WHO RECORD RULE => published`, from the arrow on. The numbers are 1 for published, 0 if the book holds none.
+pub fn publish(mut line: Line<'_>, x: Asked<'_>, book: &mut Book, want: &mut Book) -> Outcome {
+    line.expect(b"=>")?;
+    // Copied out and back: a loan of the field itself gets no proof, since `Book` has a ghost field.
+    let mut bytes = book.bytes;
+    let got = ultimattt::book_exports::uttt_book_publish(
+        x.trainer,
+        &mut bytes[..book.length],
+        book.count,
+        x.record,
+        x.rule,
+    );
+    book.bytes = bytes;
     if got.published == 1 {
-        put_mark(want, count, record, rule);
+        put_mark(want, x);
     }
-    let stored = read_published(s, arrow.end);
-    answers::settle_numbers(stored, got.code as u64, got.index, got.published as u64)
+    let given = Answer::given(got.code, got.index, [u64::from(got.published)]);
+    let stored = answers::stored(line, [0], |line| match line.word()? {
+        b"notheld" => Ok([0]),
+        b"published" => Ok([1]),
+        _ => Err(Unreadable),
+    });
+    answers::settle(stored, given)
 }
