@@ -128,11 +128,16 @@ struct Boards {
     os: u32,
 }
 
-// Whether a target names a board, or leaves the choice free.
+// Whether a target names a board, or leaves the choice free: 9 to 14 are neither, and four bits give nothing above 15.
 fn is_target(target: u8) -> bool
     ensures { result ≡ (ltb target 9 || eqb target 15) }
 {
-    matches!(target, 0..=8 | 15)
+    match target {
+        0..=8 => true,
+        9..=14 => false,
+        15 => true,
+        _ => false,
+    }
 }
 
 // Whether a target names a board that is done.
