@@ -117,6 +117,9 @@ pub fn has(mask: u16, c: usize) -> bool
     (mask >> c) % 2 == 1
 }
 
+// Words and base are parameters, and Held stands in each contract: the positions of a line change in one lent array between two reads, so a view of a position with
+// an invariant would have to be made anew at each read.
+
 // The target: 0 to 8 a board, 15 free choice.
 pub fn target(words: &[u16], base: usize) -> u16
     requires { Held words.now base }

@@ -68,6 +68,8 @@ impl NodeID {
     }
 }
 
+// Each function asks that its node lies within the words (Slot): a NodeID holds no words, so no invariant of it can say so.
+
 // How many nodes the words have room for.
 pub fn capacity(words: &[u32]) -> usize
     ensures { result ≡ capacity words.now }

@@ -194,7 +194,7 @@ fn play_game(words: &mut [u32], start: Game, c: Players, seed: u64) -> Played
     }
 }
 
-// The number of a game's state: 0 in play, 1 won by X, 2 by O, 3 drawn.
+// The number of a game's state: 0 in play, 1 won by X, 2 by O, 3 drawn. A report counts by that number (Counts).
 fn state_number(s: GameState) -> u64
     ensures { result ≡ state_number s }
 {

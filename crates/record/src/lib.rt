@@ -38,7 +38,7 @@ const SIDE: usize = 22;
 // The target that leaves the choice free.
 const FREE_CHOICE: u16 = 15;
 
-// The state of nine codes: the cells of a board, or the states of the boards.
+// The state of nine codes: the cells of a board, or the states of the boards. It is a code itself, as a cell's, and goes the same way through `cells::put`.
 fn state_of(codes: Codes) -> u8
     requires { Whole codes }
     ensures { (result < 4) × ((g : Whole codes) → result ≡ state g.codes) }
