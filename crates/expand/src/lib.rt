@@ -31,8 +31,8 @@ pub struct Siblings {
     pub last: NodeID,
 }
 
-// They, and the numbers that they give their parent. Ended: the last made has delta 0; as an enum of two cases all other fields would stand twice. Two numbers and no Bounds: as a pair inside this struct an expansion took an
-// eighth more instructions (docs/DECISIONS.md).
+// They, and the numbers that they give their parent. Ended: the last made has delta 0; as an enum of two cases all other fields would stand twice. Two numbers and
+// no Bounds: as a pair inside this struct an expansion took an eighth more instructions (docs/DECISIONS.md).
 #[derive(Clone, Copy)]
 pub struct Made {
     pub siblings: Siblings,
