@@ -1,12 +1,17 @@
-// The calls of the book of verdicts as C has them. `trainer` says who is calling: false an arbiter, true a trainer.
+// The calls of the book of verdicts as C has them: the parameters in a row, the structs and the numbers are those of the C interface. `trainer` says who is calling:
+// false an arbiter, true a trainer.
 
-ghost use Rattle.std.specs.Prelude.{◌≡◌, false, length};
+ghost use Rattle.std.specs.Prelude.{◌≡◌, false, List, ℕ, length};
 ghost use Rattle.stay.specs.Margin.{given};
 ghost use Rattle.searches.specs.Searches.{limits};
 ghost use Rattle.entries.specs.Entries.{caller_of};
-ghost use Rattle.book.specs.Book.{book_of, book_outcome, lookup_call, add_call, publish_call, PoolAfterAdd};
+ghost use Rattle.book.specs.Book.{book_of, book_outcome, lookup_call, add_call, publish_call, PoolAfterAdd, Book, BookOutcome};
+ghost use Rattle.book.specs.Answers.{looked, added_of, published};
 
-use book::{AddOutcome, LookupOutcome, PublishOutcome};
+use book::Added;
+use entries::Caller;
+use prove::Evaluation;
+use refusals::Refusal;
 use searches::SearchLimits;
 
 // The answer of lookup as C has it: code is 0 or the refusal's number; index is 0; verdict is 1 for True, 2 for False, 0 if the pair is not held and with a
@@ -19,6 +24,29 @@ pub struct LookupAnswer {
     pub verdict: u32,
 }
 
+impl From<Result<Option<bool>, Refusal>> for LookupAnswer {
+    ghost from_gives = { λ answer r. (B : Book) → book_outcome r.code r.index r.verdict false B ≡ looked answer B };
+
+    fn from(answer: Result<Option<bool>, Refusal>) -> LookupAnswer {
+        match answer {
+            Ok(held) => LookupAnswer {
+                code: 0,
+                index: 0,
+                verdict: match held {
+                    None => 0,
+                    Some(true) => 1,
+                    Some(false) => 2,
+                },
+            },
+            Err(refusal) => LookupAnswer {
+                code: refusal.number() as u32,
+                index: 0,
+                verdict: 0,
+            },
+        }
+    }
+}
+
 pub fn uttt_book_lookup(
     trainer: bool,
     book: &[u8],
@@ -29,20 +57,7 @@ pub fn uttt_book_lookup(
     ensures { book_outcome result.code result.index result.verdict false (book_of book.now count) ≡
         lookup_call (caller_of trainer) bytes.now rule (book_of book.now count) }
 {
-    let who = entries::caller_of(trainer);
-    let answer = book::lookup(who, book, count as usize, bytes, rule);
-    match answer {
-        LookupOutcome::Verdict(v) => LookupAnswer {
-            code: 0,
-            index: 0,
-            verdict: v as u32,
-        },
-        LookupOutcome::Refused(n) => LookupAnswer {
-            code: n as u32,
-            index: 0,
-            verdict: 0,
-        },
-    }
+    book::lookup(Caller::from(trainer), book, count as usize, bytes, rule).into()
 }
 
 // The answer of add as C has it: code is 0 or the refusal's number; index is 0; verdict is 1 for True, 2 for False, 0 for Unknown and with a refusal; count is
@@ -76,30 +91,27 @@ pub fn uttt_book_add(
         (limits limit budget interval (given staying margin)) (book_of book.old count) in
         PoolAfterAdd o.searched words.old words.new }
 {
-    let stay = stay::given(staying, margin);
     let l = SearchLimits {
         limit,
         budget,
         interval,
-        stay,
+        stay: stay::given(staying, margin),
     };
-    let who = entries::caller_of(trainer);
-    let answer = book::add(who, book, count as usize, bytes, words, rule, l);
-    match answer {
-        AddOutcome::Held(v) => AddAnswer {
+    match book::add(Caller::from(trainer), book, count as usize, bytes, words, rule, l) {
+        Ok(Added::Held(verdict)) => AddAnswer {
             code: 0,
             index: 0,
-            verdict: v as u32,
+            verdict: Evaluation::from(verdict).number(),
             count,
         },
-        AddOutcome::Searched(v, after) => AddAnswer {
+        Ok(Added::Searched(verdict, after)) => AddAnswer {
             code: 0,
             index: 0,
-            verdict: v as u32,
+            verdict: verdict.number(),
             count: after as u64,
         },
-        AddOutcome::Refused(n) => AddAnswer {
-            code: n as u32,
+        Err(refusal) => AddAnswer {
+            code: refusal.number() as u32,
             index: 0,
             verdict: 0,
             count,
@@ -116,6 +128,25 @@ pub struct PublishAnswer {
     pub published: u32,
 }
 
+impl From<Result<bool, Refusal>> for PublishAnswer {
+    ghost from_gives = { λ answer r. (bytes : List ℕ) (count : ℕ) → book_outcome r.code r.index r.published false (book_of bytes count) ≡ published answer bytes count };
+
+    fn from(answer: Result<bool, Refusal>) -> PublishAnswer {
+        match answer {
+            Ok(published) => PublishAnswer {
+                code: 0,
+                index: 0,
+                published: published as u32,
+            },
+            Err(refusal) => PublishAnswer {
+                code: refusal.number() as u32,
+                index: 0,
+                published: 0,
+            },
+        }
+    }
+}
+
 pub fn uttt_book_publish(
     trainer: bool,
     book: &mut [u8],
@@ -126,23 +157,5 @@ pub fn uttt_book_publish(
     ensures { book_outcome result.code result.index result.published false (book_of book.new count) ≡
         publish_call (caller_of trainer) bytes.now rule (book_of book.old count) }
 {
-    let who = entries::caller_of(trainer);
-    let answer = book::publish(who, book, count as usize, bytes, rule);
-    match answer {
-        PublishOutcome::Published => PublishAnswer {
-            code: 0,
-            index: 0,
-            published: 1,
-        },
-        PublishOutcome::NotHeld => PublishAnswer {
-            code: 0,
-            index: 0,
-            published: 0,
-        },
-        PublishOutcome::Refused(n) => PublishAnswer {
-            code: n as u32,
-            index: 0,
-            published: 0,
-        },
-    }
+    book::publish(Caller::from(trainer), book, count as usize, bytes, rule).into()
 }

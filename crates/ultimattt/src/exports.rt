@@ -1,6 +1,6 @@
-// The calls as C has them.
+// The calls as C has them: the parameters in a row, the structs and the numbers in place of enums are those of the C interface.
 
-ghost use Rattle.std.specs.Prelude.{◌≡◌, length, take};
+ghost use Rattle.std.specs.Prelude.{◌≡◌, List, ℕ, length, take};
 ghost use Rattle.game.specs.Numbers.{error_number};
 ghost use Rattle.pn.specs.Results.{result_of};
 ghost use Rattle.calls.specs.Calls.{replay_outcome, moves_outcome, referee_outcome, replay_call, moves_call, referee_call};
@@ -8,12 +8,15 @@ ghost use Rattle.sheets.specs.Sheets.{sheets_outcome, sheets_call};
 ghost use Rattle.stay.specs.Margin.{given};
 ghost use Rattle.searches.specs.Searches.{limits, search_call, PoolAfter, full_call, PoolAfterFull};
 ghost use Rattle.searches.specs.Answers.{full_verdict};
+ghost use Rattle.calls.specs.Answers.{replayed, listing, refereed};
+ghost use Rattle.searches.specs.Answers.{searched, judged};
 ghost use Rattle.ultimattt.specs.Exports.{fields, fields_of, no_fields, search_numbers, searched_numbers, full_number, full_numbers, judged_numbers};
 
-use calls::{Listed, Refereed, Replayed};
+use calls::ReplayError;
 use game::MoveError;
 use pn::SearchResult;
-use searches::{FullOutcome, FullVerdict, Outcome, SearchLimits};
+use refusals::Refusal;
+use searches::{Full, FullVerdict, SearchLimits};
 
 // An error's number in the table of refusals.
 fn error_number(e: MoveError) -> u32
@@ -36,21 +39,28 @@ pub struct ReplayAnswer {
     pub index: u64,
 }
 
+impl From<Result<(), ReplayError>> for ReplayAnswer {
+    ghost from_gives = { λ answer r. (out : List ℕ) → replay_outcome r.code r.index out ≡ replayed answer out };
+
+    fn from(answer: Result<(), ReplayError>) -> ReplayAnswer {
+        match answer {
+            Ok(()) => ReplayAnswer { code: 0, index: 0 },
+            Err(ReplayError::Refused(refusal)) => ReplayAnswer {
+                code: refusal.number() as u32,
+                index: 0,
+            },
+            Err(ReplayError::BadMove(e, i)) => ReplayAnswer {
+                code: error_number(e),
+                index: i as u64,
+            },
+        }
+    }
+}
+
 pub fn uttt_replay(bytes: &[u8], moves: &[u8], out: &mut [u8]) -> ReplayAnswer
     ensures { replay_outcome result.code result.index out.new ≡ replay_call bytes.now moves.now out.old }
 {
-    let answer = calls::replay(bytes, moves, out);
-    match answer {
-        Replayed::Done => ReplayAnswer { code: 0, index: 0 },
-        Replayed::Refused(n) => ReplayAnswer {
-            code: n as u32,
-            index: 0,
-        },
-        Replayed::BadMove(e, i) => ReplayAnswer {
-            code: error_number(e),
-            index: i as u64,
-        },
-    }
+    calls::replay(bytes, moves, out).into()
 }
 
 // The answer of legal moves as C has it: code is 0 or the refusal's number, index 0, count how many moves were written.
@@ -62,22 +72,29 @@ pub struct MovesAnswer {
     pub count: u64,
 }
 
+impl From<Result<usize, Refusal>> for MovesAnswer {
+    ghost from_gives = { λ answer r. (out : List ℕ) → moves_outcome r.code r.index r.count out ≡ listing answer out };
+
+    fn from(answer: Result<usize, Refusal>) -> MovesAnswer {
+        match answer {
+            Ok(count) => MovesAnswer {
+                code: 0,
+                index: 0,
+                count: count as u64,
+            },
+            Err(refusal) => MovesAnswer {
+                code: refusal.number() as u32,
+                index: 0,
+                count: 0,
+            },
+        }
+    }
+}
+
 pub fn uttt_legal_moves(bytes: &[u8], out: &mut [u8]) -> MovesAnswer
     ensures { moves_outcome result.code result.index result.count out.new ≡ moves_call bytes.now out.old }
 {
-    let answer = calls::legal_moves(bytes, out);
-    match answer {
-        Listed::Count(n) => MovesAnswer {
-            code: 0,
-            index: 0,
-            count: n as u64,
-        },
-        Listed::Turned(n) => MovesAnswer {
-            code: n as u32,
-            index: 0,
-            count: 0,
-        },
-    }
+    calls::legal_moves(bytes, out).into()
 }
 
 // The answer of referee as C has it: code is 0 or the refusal's number; index is 0; value is 1 for True, 2 for False, and 0 with a refusal.
@@ -89,22 +106,29 @@ pub struct RefereeAnswer {
     pub value: u32,
 }
 
+impl From<Result<bool, Refusal>> for RefereeAnswer {
+    ghost from_gives = { λ answer r. referee_outcome r.code r.index r.value ≡ refereed answer };
+
+    fn from(answer: Result<bool, Refusal>) -> RefereeAnswer {
+        match answer {
+            Ok(value) => RefereeAnswer {
+                code: 0,
+                index: 0,
+                value: if value { 1 } else { 2 },
+            },
+            Err(refusal) => RefereeAnswer {
+                code: refusal.number() as u32,
+                index: 0,
+                value: 0,
+            },
+        }
+    }
+}
+
 pub fn uttt_referee(bytes: &[u8], rule: u64) -> RefereeAnswer
     ensures { referee_outcome result.code result.index result.value ≡ referee_call bytes.now rule }
 {
-    let answer = calls::referee(bytes, rule);
-    match answer {
-        Refereed::Value(v) => RefereeAnswer {
-            code: 0,
-            index: 0,
-            value: if v { 1 } else { 2 },
-        },
-        Refereed::Declined(n) => RefereeAnswer {
-            code: n as u32,
-            index: 0,
-            value: 0,
-        },
-    }
+    calls::referee(bytes, rule).into()
 }
 
 // The agreed opening of two sheets as C has it: how many moves of the first sheet it is, from its front on. The number, 0 or 7, goes into the lent one.
@@ -112,13 +136,21 @@ pub fn uttt_agreed_opening(first: &[u8], second: &[u8], out: &mut [u8], number: 
     ensures out_after { sheets_outcome (take result first.now) number.new out.new ≡ sheets_call first.now second.now out.old }
     ensures count { result ≡ length (sheets_call first.now second.now out.old).part }
 {
-    let part = sheets::agreed_opening(first, second, out, number);
-    part.len() as u64
+    match sheets::agreed_opening(first, second, out) {
+        Ok(part) => {
+            *number = 0;
+            part.len() as u64
+        }
+        Err(refusal) => {
+            *number = refusal.number() as u32;
+            0
+        }
+    }
 }
 
 // The nine fields of a result as C has them: verdict is 0 Unknown, 1 True, 2 False.
 #[repr(C)]
-#[derive(Clone, Copy)]
+#[derive(Clone, Copy, Default)]
 pub struct ResultFields {
     pub verdict: u32,
     pub proof: u32,
@@ -131,38 +163,21 @@ pub struct ResultFields {
     pub cause: u32,
 }
 
-// The fields of a result.
-pub fn fields_of(r: SearchResult) -> ResultFields
-    ensures { fields result ≡ fields_of (result_of r) }
-{
-    let verdict = r.verdict;
-    ResultFields {
-        verdict: verdict.number(),
-        proof: r.proof,
-        disproof: r.disproof,
-        allocated: r.allocated,
-        freed: r.freed,
-        proved: r.proved,
-        disproved: r.disproved,
-        expanded: r.expanded,
-        cause: r.cause as u32,
-    }
-}
+impl From<SearchResult> for ResultFields {
+    ghost from_gives = { λ r f. fields f ≡ fields_of (result_of r) };
 
-// The fields that go with a refusal.
-pub fn no_fields() -> ResultFields
-    ensures { fields result ≡ no_fields }
-{
-    ResultFields {
-        verdict: 0,
-        proof: 0,
-        disproof: 0,
-        allocated: 0,
-        freed: 0,
-        proved: 0,
-        disproved: 0,
-        expanded: 0,
-        cause: 0,
+    fn from(r: SearchResult) -> ResultFields {
+        ResultFields {
+            verdict: r.verdict.number(),
+            proof: r.proof,
+            disproof: r.disproof,
+            allocated: r.allocated,
+            freed: r.freed,
+            proved: r.proved,
+            disproved: r.disproved,
+            expanded: r.expanded,
+            cause: r.cause.number() as u32,
+        }
     }
 }
 
@@ -173,6 +188,25 @@ pub struct SearchAnswer {
     pub code: u32,
     pub index: u64,
     pub result: ResultFields,
+}
+
+impl From<Result<SearchResult, Refusal>> for SearchAnswer {
+    ghost from_gives = { λ answer r. search_numbers r ≡ searched_numbers (searched answer) };
+
+    fn from(answer: Result<SearchResult, Refusal>) -> SearchAnswer {
+        match answer {
+            Ok(result) => SearchAnswer {
+                code: 0,
+                index: 0,
+                result: result.into(),
+            },
+            Err(refusal) => SearchAnswer {
+                code: refusal.number() as u32,
+                index: 0,
+                result: ResultFields::default(),
+            },
+        }
+    }
 }
 
 pub fn uttt_search(
@@ -196,19 +230,7 @@ pub fn uttt_search(
         interval,
         stay,
     };
-    let outcome = searches::search(bytes, words, rule, l);
-    match outcome {
-        Outcome::Answered(r) => SearchAnswer {
-            code: 0,
-            index: 0,
-            result: fields_of(r),
-        },
-        Outcome::Refused(n) => SearchAnswer {
-            code: n as u32,
-            index: 0,
-            result: no_fields(),
-        },
-    }
+    searches::search(bytes, words, rule, l).into()
 }
 
 // A full verdict's number: 0 unknown, 1 win, 2 loss, 3 draw, 4 at least a draw, 5 at most a draw.
@@ -237,6 +259,29 @@ pub struct FullAnswer {
     pub second: ResultFields,
 }
 
+impl From<Result<Full, Refusal>> for FullAnswer {
+    ghost from_gives = { λ answer r. full_numbers r ≡ judged_numbers (judged answer) };
+
+    fn from(answer: Result<Full, Refusal>) -> FullAnswer {
+        match answer {
+            Ok(full) => FullAnswer {
+                code: 0,
+                index: 0,
+                verdict: full_number(full.verdict),
+                first: full.first.into(),
+                second: full.second.into(),
+            },
+            Err(refusal) => FullAnswer {
+                code: refusal.number() as u32,
+                index: 0,
+                verdict: 0,
+                first: ResultFields::default(),
+                second: ResultFields::default(),
+            },
+        }
+    }
+}
+
 pub fn uttt_full_verdict(
     bytes: &[u8],
     words: &mut [u32],
@@ -257,21 +302,5 @@ pub fn uttt_full_verdict(
         interval,
         stay,
     };
-    let outcome = searches::full_verdict(bytes, words, l);
-    match outcome {
-        FullOutcome::Full(v, first, second) => FullAnswer {
-            code: 0,
-            index: 0,
-            verdict: full_number(v),
-            first: fields_of(first),
-            second: fields_of(second),
-        },
-        FullOutcome::TurnedBack(n) => FullAnswer {
-            code: n as u32,
-            index: 0,
-            verdict: 0,
-            first: no_fields(),
-            second: no_fields(),
-        },
-    }
+    searches::full_verdict(bytes, words, l).into()
 }

@@ -1,16 +1,17 @@
-// The call that judges up to eight games as C has it.
+// The call that judges up to eight games as C has it: its parameters, struct and numbers are those of the C interface.
 
 ghost use Rattle.std.specs.Prelude.{◌≡◌, map, length};
 ghost use Rattle.pn.specs.Results.{result_of};
 ghost use Rattle.stay.specs.Margin.{given};
 ghost use Rattle.games_checks.specs.Checks.{games, common};
 ghost use Rattle.games.specs.Games.{games_call, PoolAfterGames};
+ghost use Rattle.games.specs.Answers.{outcome_of};
 ghost use Rattle.ultimattt.specs.Exports.{fields, fields_of};
 ghost use Rattle.ultimattt.specs.GamesExports.{games_numbers, outcome_numbers};
 
-use crate::exports;
 use crate::exports::ResultFields;
-use games_checks::{Common, MOST_GAMES};
+use games::JudgedGames;
+use games_checks::{Common, GameRefusal, MOST_GAMES};
 use pn::SearchResult;
 
 // The fields of eight results.
@@ -18,16 +19,7 @@ fn all_fields(results: [SearchResult; MOST_GAMES]) -> [ResultFields; MOST_GAMES]
     requires { length results ≡ 8 }
     ensures { map fields result ≡ map fields_of (map result_of results) }
 {
-    let none = exports::no_fields();
-    let mut all: [ResultFields; MOST_GAMES] = [none; MOST_GAMES];
-    let mut i: usize = 0;
-    while i < MOST_GAMES {
-        let r = results[i];
-        let f = exports::fields_of(r);
-        all[i] = f;
-        i += 1;
-    }
-    all
+    results.map(ResultFields::from)
 }
 
 // The answer as C has it: code is 0 or the refusal's number; index is the game's whose record was refused with 2 to 6 or 22, and 0 elsewhere; count is how many games
@@ -39,6 +31,27 @@ pub struct GamesAnswer {
     pub index: u64,
     pub count: u64,
     pub results: [ResultFields; MOST_GAMES],
+}
+
+impl From<Result<JudgedGames, GameRefusal>> for GamesAnswer {
+    ghost from_gives = { λ answer r. games_numbers r ≡ outcome_numbers (outcome_of answer) };
+
+    fn from(answer: Result<JudgedGames, GameRefusal>) -> GamesAnswer {
+        match answer {
+            Ok(judged) => GamesAnswer {
+                code: 0,
+                index: 0,
+                count: judged.count as u64,
+                results: all_fields(judged.results),
+            },
+            Err(e) => GamesAnswer {
+                code: e.refusal.number() as u32,
+                index: e.index as u64,
+                count: 0,
+                results: [ResultFields::default(); MOST_GAMES],
+            },
+        }
+    }
 }
 
 pub fn uttt_judge_games(
@@ -64,12 +77,5 @@ pub fn uttt_judge_games(
         interval,
         stay,
     };
-    let answer = games::judge_games(bytes, words, shares, c);
-    let results = answer.results;
-    GamesAnswer {
-        code: answer.code as u32,
-        index: answer.index as u64,
-        count: answer.count as u64,
-        results: all_fields(results),
-    }
+    games::judge_games(bytes, words, shares, c).into()
 }

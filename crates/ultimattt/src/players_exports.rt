@@ -1,11 +1,13 @@
-// The call of simulated players as C has it.
+// The call of simulated players as C has it: its parameters, struct and numbers are those of the C interface.
 
 ghost use Rattle.std.specs.Prelude.{◌≡◌, length};
 ghost use Rattle.matches.specs.Matches.{report};
 ghost use Rattle.stay.specs.Margin.{given};
 ghost use Rattle.players.specs.Players.{players, simulate_outcome, simulate_call, PoolAfterSimulate, in_play};
+ghost use Rattle.players.specs.Answers.{simulated};
 
-use players::{Players, Simulated};
+use players::{Players, Report};
+use refusals::Refusal;
 
 // The answer as C has it: code is 0 or the refusal's number; index is 0; the report's numbers, all 0 with a refusal.
 #[repr(C)]
@@ -17,6 +19,31 @@ pub struct SimulateAnswer {
     pub o_wins: u64,
     pub draws: u64,
     pub expanded: u64,
+}
+
+impl From<Result<Report, Refusal>> for SimulateAnswer {
+    ghost from_gives = { λ answer r. simulate_outcome r.code r.index (report r.x_wins r.o_wins r.draws r.expanded) ≡ simulated answer };
+
+    fn from(answer: Result<Report, Refusal>) -> SimulateAnswer {
+        match answer {
+            Ok(report) => SimulateAnswer {
+                code: 0,
+                index: 0,
+                x_wins: report.x_wins,
+                o_wins: report.o_wins,
+                draws: report.draws,
+                expanded: report.expanded,
+            },
+            Err(refusal) => SimulateAnswer {
+                code: refusal.number() as u32,
+                index: 0,
+                x_wins: 0,
+                o_wins: 0,
+                draws: 0,
+                expanded: 0,
+            },
+        }
+    }
 }
 
 pub fn uttt_simulate(
@@ -43,23 +70,5 @@ pub fn uttt_simulate(
         interval,
         stay,
     };
-    let answer = players::simulate(bytes, words, c, seed, games);
-    match answer {
-        Simulated::Reported(r) => SimulateAnswer {
-            code: 0,
-            index: 0,
-            x_wins: r.x_wins,
-            o_wins: r.o_wins,
-            draws: r.draws,
-            expanded: r.expanded,
-        },
-        Simulated::Refused(n) => SimulateAnswer {
-            code: n as u32,
-            index: 0,
-            x_wins: 0,
-            o_wins: 0,
-            draws: 0,
-            expanded: 0,
-        },
-    }
+    players::simulate(bytes, words, c, seed, games).into()
 }
