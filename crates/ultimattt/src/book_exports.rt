@@ -97,7 +97,15 @@ pub fn uttt_book_add(
         interval,
         stay: stay::given(staying, margin),
     };
-    match book::add(Caller::from(trainer), book, count as usize, bytes, words, rule, l) {
+    match book::add(
+        Caller::from(trainer),
+        book,
+        count as usize,
+        bytes,
+        words,
+        rule,
+        l,
+    ) {
         Ok(Added::Held(verdict)) => AddAnswer {
             code: 0,
             index: 0,

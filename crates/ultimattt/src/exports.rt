@@ -223,12 +223,11 @@ pub fn uttt_search(
     ensures pool { PoolAfter (search_call bytes.now (length words.old) rule (limits limit budget interval (given staying margin)))
         words.old words.new }
 {
-    let stay = stay::given(staying, margin);
     let l = SearchLimits {
         limit,
         budget,
         interval,
-        stay,
+        stay: stay::given(staying, margin),
     };
     searches::search(bytes, words, rule, l).into()
 }
@@ -295,12 +294,11 @@ pub fn uttt_full_verdict(
     ensures pool { PoolAfterFull (full_call bytes.now (length words.old) (limits limit budget interval (given staying margin)))
         words.old words.new }
 {
-    let stay = stay::given(staying, margin);
     let l = SearchLimits {
         limit,
         budget,
         interval,
-        stay,
+        stay: stay::given(staying, margin),
     };
     searches::full_verdict(bytes, words, l).into()
 }

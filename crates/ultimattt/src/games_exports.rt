@@ -69,13 +69,12 @@ pub fn uttt_judge_games(
         (common rule limit allowance interval (given staying margin))) }
     ensures pool { PoolAfterGames result.code (games bytes.now) words.old words.new }
 {
-    let stay = stay::given(staying, margin);
     let c = Common {
         rule,
         limit,
         allowance,
         interval,
-        stay,
+        stay: stay::given(staying, margin),
     };
     games::judge_games(bytes, words, shares, c).into()
 }

@@ -62,13 +62,12 @@ pub fn uttt_simulate(
         simulate_call bytes.now (length words.old) (players limit x_budget o_budget interval (given staying margin)) seed games }
     ensures pool { PoolAfterSimulate result.code (in_play bytes.now) words.old words.new }
 {
-    let stay = stay::given(staying, margin);
     let c = Players {
         limit,
         x_budget,
         o_budget,
         interval,
-        stay,
+        stay: stay::given(staying, margin),
     };
     players::simulate(bytes, words, c, seed, games).into()
 }
