@@ -9,8 +9,5 @@ use std::io;
 fn main(rt: HostRuntime) -> io::Result<()> {
     let mut buffer = [0u8; 23];
     let n = intake::read_full(&mut rt.stdin(), &mut buffer)?;
-    let line = printed::judge_line(&buffer[..n]);
-    let bytes = line.bytes;
-    let length = line.length;
-    rt.write_all(&bytes[..length])
+    rt.write_all(printed::judge_line(&buffer[..n]).text())
 }

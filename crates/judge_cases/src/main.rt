@@ -10,24 +10,15 @@ mod pairs;
 
 use std::io;
 
-fn write_line(rt: &impl Print, input: &[u8]) -> io::Result<()> {
-    let line = printed::judge_line(input);
-    let bytes = line.bytes;
-    let length = line.length;
-    rt.write_all(&bytes[..length])
-}
-
 // Runs them all. Standard input may end within the last one: then that one is not run.
 fn run(rt: &impl Print, text: &[u8]) -> io::Result<()> {
-    let mut at: usize = 0;
-    while at < text.len() {
-        let start = at + 1;
-        let end = start + text[at] as usize;
-        if text.len() < end {
+    let mut rest = text;
+    while let Some((&length, after)) = rest.split_first() {
+        let Some((input, next)) = after.split_at_checked(length as usize) else {
             return println!(rt; "the last input is cut short");
-        }
-        write_line(rt, &text[start..end])?;
-        at = end;
+        };
+        rt.write_all(printed::judge_line(input).text())?;
+        rest = next;
     }
     Ok(())
 }

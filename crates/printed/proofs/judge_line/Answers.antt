@@ -1,6 +1,8 @@
--- `printed::judge_line` meets its contract: the line stands in front, zeros after it. Assumes nothing.
-use Rattle.printed.specs.Puts.{put_line}
+-- `printed::judge_line` meets its contract where the input has the right length. Assumes nothing.
+use Rattle.std.proofs.Common.{ap, sym, ◌∙◌, arith}
+use Rattle.printed.specs.Printed.{answer_line}
+use Rattle.printed.specs.Answers.{right_length}
 use Rattle.printed.proofs.judge_line.Goals as goal
 
-pub returns-clause-bytes_value : goal.returns-clause-bytes_value
-returns-clause-bytes_value c = (put_line 176 c.put_line-length.ensures).0
+pub returns : goal.returns
+returns c = c.outcome_line.ensures ∙ ap answer_line c.search.ensures.0 ∙ sym (right_length _ (omega arith))

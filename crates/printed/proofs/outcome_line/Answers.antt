@@ -1,6 +1,11 @@
--- `printed::outcome_line` meets its contract: the line stands in front, zeros after it. Assumes nothing.
-use Rattle.printed.specs.Puts.{put_line}
+-- `printed::outcome_line` meets its contract, by the cases of the answer. Assumes nothing.
+use Rattle.printed.specs.Printed.{answer_line, fields_line}
 use Rattle.printed.proofs.outcome_line.Goals as goal
 
-pub returns-clause-bytes_value : goal.returns-clause-bytes_value
-returns-clause-bytes_value c = (put_line 176 c.put_outcome-length.ensures).0
+pub returns-in-Ok : goal.returns-in-Ok
+unfolding answer_line fields_line
+returns-in-Ok c = rw (c.in-Ok.is, c.line_of.ensures, c.word.ensures.word, c.number.ensures)
+
+pub returns-in-Err : goal.returns-in-Err
+unfolding answer_line
+returns-in-Err c = rw c.in-Err.is c.refusal_line.ensures
