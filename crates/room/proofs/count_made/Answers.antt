@@ -9,7 +9,7 @@ use Rattle.room.proofs.count_made.Goals as goal
 all_from : (c : Joined-o-lt9) (l : Countable c.args.words.now c.args.base c.args.attacker) → AllFrom l c.read-o.result c.if-o-lt9.start
 all_from c l =
     let outer = c.read-o.ensures _ l.holds in
-    (outer, elim c.if-o-lt9.branch [ | in-0-to-8 w ↦ rw w.start-is (target_passed outer (search rules)).0 | in_default w ↦ rw w.start-is refl ])
+    (outer, elim c.if-o-lt9.branch [ in-0-to-8 w ↦ rw w.start-is (target_passed outer (search rules)).0 | in_default w ↦ rw w.start-is refl ])
 
 pub count_from-requires : goal.count_from-requires
 count_from-requires c = (c.requires, all_from c c.requires)
