@@ -1,5 +1,5 @@
 -- What the contracts of `vectors::line` and of those who read by it cite. Rests on the library alone.
-use Rattle.std.specs.Prelude.{ℕ, ◌+◌, ◌-◌, ◌<◌, ◌≤◌, ◌≡◌, List, ◌++◌, cond, length, take, get_or, ltb, Result, Ok, Err}
+use Rattle.std.specs.Prelude.{ℕ, ◌+◌, ◌-◌, ◌<◌, ◌≤◌, ◌≡◌, List, ◌++◌, cond, length, take, drop, get_or, ltb, Result, Ok, Err}
 use Rattle.vectors.specs.declared.line.Unreadable.{Unreadable}
 
 -- r is the first place from a on where b stands, or the length.
@@ -13,6 +13,10 @@ pub record First (s : List ℕ) (a b r : ℕ) : Type 0 where
 pub record Leads (text word rest : List ℕ) : Type 0 where
   pub whole : text ≡ word ++ rest
   pub ends : First text 0 32 (length word)
+
+-- A space stands at the front of a text, then the word, and after it the rest.
+abbrev pub Next : List ℕ → List ℕ → List ℕ → Type 0
+Next text word rest = (get_or text 0 0 ≡ 32) × Leads (drop 1 text) word rest
 
 -- n elements stand at the front of xs. The second part follows from the first, and spares a caller who lends them a proof.
 abbrev pub IsPrefixLen : ℕ → List ℕ → Type 0

@@ -134,7 +134,7 @@ fn add(mut line: Line<'_>, asked: Asked<'_>, book: &mut Book, want: &mut Book) -
     let x = search_lines::read_settings(&mut line)?;
     let mut pool = fields::fresh_pool();
     let before = book.count;
-    // Copied out and back: a loan of the field itself gets no proof, since `Book` has a ghost field.
+    // Tried, and no proof came: to lend `book.bytes` itself, a field beside a ghost field. So it is copied out and back.
     let mut bytes = book.bytes;
     let got = ultimattt::book_exports::uttt_book_add(
         asked.trainer,

@@ -1,6 +1,6 @@
 // A line of the stored list, which has words with one space between: its words in turn, and the numbers and bytes that words spell.
-ghost use Rattle.std.specs.Prelude.{◌≡◌, true, false, drop, get_or, length, ℕ, List, IfOk, IfErr};
-ghost use Rattle.vectors.specs.Words.{First, Leads, DigitOf, Counted};
+ghost use Rattle.std.specs.Prelude.{◌≡◌, true, false, get_or, length, ℕ, List, IfOk, IfErr};
+ghost use Rattle.vectors.specs.Words.{First, Leads, Next, DigitOf, Counted};
 
 // That a line is not as it should be.
 #[derive(Clone, Copy, PartialEq, Eq)]
@@ -30,7 +30,7 @@ pub fn first_word(text: &[u8]) -> (&[u8], Line<'_>)
 impl<'a> Line<'a> {
     // The next word, which follows a space.
     pub fn word(&mut self) -> Result<&'a [u8], Unreadable>
-        ensures next { IfOk result (λ w. (get_or self.old.rest.now 0 0 ≡ 32) × Leads (drop 1 self.old.rest.now) w.now self.new.rest.now) }
+        ensures next { IfOk result (λ w. Next self.old.rest.now w.now self.new.rest.now) }
         ensures none { IfErr result (λ e. get_or self.old.rest.now 0 0 ≡ 32 → ⊥) }
     {
         let [b' ', text @ ..] = self.rest else {
@@ -43,8 +43,8 @@ impl<'a> Line<'a> {
 
     // Passes the next word if it is the one asked for. Whether it is.
     pub fn skip(&mut self, asked: &[u8]) -> bool
-        ensures found { result ≡ true → (get_or self.old.rest.now 0 0 ≡ 32) × Leads (drop 1 self.old.rest.now) asked.now self.new.rest.now }
-        ensures all { (rest : List ℕ) → get_or self.old.rest.now 0 0 ≡ 32 → Leads (drop 1 self.old.rest.now) asked.now rest → result ≡ true }
+        ensures found { result ≡ true → Next self.old.rest.now asked.now self.new.rest.now }
+        ensures all { (after : List ℕ) → Next self.old.rest.now asked.now after → result ≡ true }
         ensures other { result ≡ false → self.new ≡ self.old }
     {
         let mut after = *self;
@@ -59,8 +59,8 @@ impl<'a> Line<'a> {
 
     // Passes the next word, which has to be the one asked for.
     pub fn expect(&mut self, asked: &[u8]) -> Result<(), Unreadable>
-        ensures found { IfOk result (λ u. (get_or self.old.rest.now 0 0 ≡ 32) × Leads (drop 1 self.old.rest.now) asked.now self.new.rest.now) }
-        ensures none { IfErr result (λ e. (rest : List ℕ) → get_or self.old.rest.now 0 0 ≡ 32 → Leads (drop 1 self.old.rest.now) asked.now rest → ⊥) }
+        ensures found { IfOk result (λ u. Next self.old.rest.now asked.now self.new.rest.now) }
+        ensures none { IfErr result (λ e. (after : List ℕ) → Next self.old.rest.now asked.now after → ⊥) }
     {
         if self.skip(asked) {
             Ok(())

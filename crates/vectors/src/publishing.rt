@@ -19,22 +19,17 @@ fn holds(entry: &[u8], x: Asked<'_>) -> bool {
 
 // Marks the first used entry that holds a pair in the book as it should be, if there is one: its last byte gets its lowest bit.
 fn put_mark(want: &mut Book, x: Asked<'_>) {
-    let count = want.count;
-    for (i, entry) in want.bytes.chunks_exact_mut(22).enumerate() {
-        if count <= i as u64 {
-            return;
-        }
-        if holds(entry, x) {
-            entry[21] |= 1;
-            return;
-        }
+    let used = want.count as usize;
+    let mut entries = want.bytes.chunks_exact_mut(22).take(used);
+    if let Some(entry) = entries.find(|entry| holds(entry, x)) {
+        entry[21] |= 1;
     }
 }
 
 // `book publish WHO RECORD RULE => published`, from the arrow on. The numbers are 1 for published, 0 if the book holds none.
 pub fn publish(mut line: Line<'_>, x: Asked<'_>, book: &mut Book, want: &mut Book) -> Outcome {
     line.expect(b"=>")?;
-    // Copied out and back: a loan of the field itself gets no proof, since `Book` has a ghost field.
+    // Tried, and no proof came: to lend `book.bytes` itself, a field beside a ghost field. So it is copied out and back.
     let mut bytes = book.bytes;
     let got = ultimattt::book_exports::uttt_book_publish(
         x.trainer,

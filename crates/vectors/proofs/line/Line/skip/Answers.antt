@@ -1,8 +1,7 @@
 -- Where another word stands than the one asked for, that one does not stand there too.
-use Rattle.std.proofs.Common.{◌≡◌}
-use Rattle.std.proofs.Common.{rules}
+use Rattle.std.proofs.Common.{rules, ◌≡◌}
 use Rattle.vectors.proofs.Words.{leads_once}
 use Rattle.vectors.proofs.line.Line.skip.Goals as goal
 
 pub returns-in_default-clause-all : goal.returns-in_default-clause-all
-returns-in_default-clause-all c rest e l = let h : c.in-Ok.word.now ≡ c.args.asked.now = leads_once _ _ _ _ _ c.in-Ok.ensures.next.1 l in search rules
+returns-in_default-clause-all c after h = let same : c.in-Ok.word.now ≡ c.args.asked.now = leads_once _ _ _ _ _ c.in-Ok.ensures.next.1 h.1 in search rules
