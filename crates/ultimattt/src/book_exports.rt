@@ -5,8 +5,8 @@ ghost use Rattle.std.specs.Prelude.{◌≡◌, false, List, ℕ, length};
 ghost use Rattle.stay.specs.Margin.{given};
 ghost use Rattle.searches.specs.Searches.{limits};
 ghost use Rattle.entries.specs.Entries.{caller_of};
-ghost use Rattle.book.specs.Book.{book_of, book_outcome, lookup_call, add_call, publish_call, PoolAfterAdd, Book, BookOutcome};
-ghost use Rattle.book.specs.Answers.{looked, added_of, published};
+ghost use Rattle.book.specs.Book.{book_of, book_outcome, lookup_call, add_call, publish_call, PoolAfterAdd, Book};
+ghost use Rattle.book.specs.Answers.{looked, published};
 
 use book::Added;
 use entries::Caller;

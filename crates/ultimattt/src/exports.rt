@@ -7,10 +7,9 @@ ghost use Rattle.calls.specs.Calls.{replay_outcome, moves_outcome, referee_outco
 ghost use Rattle.sheets.specs.Sheets.{sheets_outcome, sheets_call};
 ghost use Rattle.stay.specs.Margin.{given};
 ghost use Rattle.searches.specs.Searches.{limits, search_call, PoolAfter, full_call, PoolAfterFull};
-ghost use Rattle.searches.specs.Answers.{full_verdict};
 ghost use Rattle.calls.specs.Answers.{replayed, listing, refereed};
-ghost use Rattle.searches.specs.Answers.{searched, judged};
-ghost use Rattle.ultimattt.specs.Exports.{fields, fields_of, no_fields, search_numbers, searched_numbers, full_number, full_numbers, judged_numbers};
+ghost use Rattle.searches.specs.Answers.{full_verdict, searched, judged};
+ghost use Rattle.ultimattt.specs.Exports.{fields, fields_of, search_numbers, searched_numbers, full_number, full_numbers, judged_numbers};
 
 use calls::ReplayError;
 use game::MoveError;
@@ -18,7 +17,7 @@ use pn::SearchResult;
 use refusals::Refusal;
 use searches::{Full, FullVerdict, SearchLimits};
 
-// An error's number in the table of refusals.
+// An error's number in the table of refusals. C has a number in place of the enum, and a From between game's type and u32 may not stand in this crate.
 fn error_number(e: MoveError) -> u32
     ensures { result ≡ error_number e }
 {
@@ -232,7 +231,7 @@ pub fn uttt_search(
     searches::search(bytes, words, rule, l).into()
 }
 
-// A full verdict's number: 0 unknown, 1 win, 2 loss, 3 draw, 4 at least a draw, 5 at most a draw.
+// A full verdict's number, likewise: 0 unknown, 1 win, 2 loss, 3 draw, 4 at least a draw, 5 at most a draw.
 fn full_number(v: FullVerdict) -> u32
     ensures { result ≡ full_number (full_verdict v) }
 {

@@ -1,14 +1,11 @@
 // The calls replay, legal moves, referee, agreed opening, search and full verdict under their names in C. Each is the library's own, with its contract; include/ultimattt.h says what is lent and answered.
 
 ghost use Rattle.std.specs.Prelude.{◌≡◌, length, take};
-ghost use Rattle.game.specs.Numbers.{error_number};
-ghost use Rattle.pn.specs.Results.{result_of};
 ghost use Rattle.calls.specs.Calls.{replay_outcome, moves_outcome, referee_outcome, replay_call, moves_call, referee_call};
 ghost use Rattle.sheets.specs.Sheets.{sheets_outcome, sheets_call};
 ghost use Rattle.stay.specs.Margin.{given};
 ghost use Rattle.searches.specs.Searches.{limits, search_call, PoolAfter, full_call, PoolAfterFull};
-ghost use Rattle.searches.specs.Answers.{full_verdict};
-ghost use Rattle.ultimattt.specs.Exports.{fields, fields_of, no_fields, search_numbers, searched_numbers, full_number, full_numbers, judged_numbers};
+ghost use Rattle.ultimattt.specs.Exports.{search_numbers, searched_numbers, full_numbers, judged_numbers};
 
 use ultimattt::exports::{FullAnswer, MovesAnswer, RefereeAnswer, ReplayAnswer, SearchAnswer};
 

@@ -1,11 +1,9 @@
 // The calls games judged together under their names in C. Each is the library's own, with its contract; include/ultimattt.h says what is lent and answered.
 
-ghost use Rattle.std.specs.Prelude.{◌≡◌, map, length};
-ghost use Rattle.pn.specs.Results.{result_of};
+ghost use Rattle.std.specs.Prelude.{◌≡◌, length};
 ghost use Rattle.stay.specs.Margin.{given};
 ghost use Rattle.games_checks.specs.Checks.{games, common};
 ghost use Rattle.games.specs.Games.{games_call, PoolAfterGames};
-ghost use Rattle.ultimattt.specs.Exports.{fields, fields_of};
 ghost use Rattle.ultimattt.specs.GamesExports.{games_numbers, outcome_numbers};
 
 use games_checks::{Common, MOST_GAMES};
