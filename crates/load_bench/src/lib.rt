@@ -50,7 +50,7 @@ pub fn bench_cells_from_words(bytes: &[u8]) -> BenchCells
     Cells::from(cells::record_words(bytes)).into()
 }
 
-// The same cells, bit by bit.
+// The same cells, bit by bit. C asks for each way by its name; with the way as a parameter the two would be no plainer, a reader and what it needs for a line.
 pub fn bench_cells_bit_by_bit(bytes: &[u8]) -> BenchCells
     ensures { (21 ≤ length bytes.now → BoardsRead (position_of bytes.now).cells 9 result.words result.rest)
         × (length bytes.now < 21 → (result.words ≡ replicate 23 0) × (result.rest ≡ 0)) }

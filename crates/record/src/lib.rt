@@ -194,7 +194,7 @@ pub fn load_fields(read: Cells, target: u8, side: u8) -> Result<Game, Refusal>
 }
 
 // Checks 1 to 6, in their order, and the position's words.
-#[tactic(auto, using(crate::specs::Loading::refused_1))]
+#[tactic(auto, using(crate::proofs::Loading::refused_1))]
 pub fn load_to_6(bytes: &[u8]) -> Result<Game, Refusal>
     ensures code { refusal_code result ≡ refusal_to6 bytes.now }
     ensures position { IfOk result (λ g. Holds (position_of bytes.now) g.words 0) }

@@ -1,7 +1,7 @@
 -- `load_bench::load_bit_by_bit_to_6` meets its contract: the two checks of the bytes, and what was read bit by bit. Assumes nothing.
 use mathlib.Core.Path.{sym, ◌∙◌}
 use Rattle.record.specs.Reading.{FieldsRead}
-use Rattle.record.specs.Loading.{refused_1, refused_2, refused_later, fields}
+use Rattle.record.proofs.Loading.{refused_1, refused_2, refused_later, fields}
 use Rattle.load_bench.proofs.load_bit_by_bit_to_6.Goals.{After-cells}
 use Rattle.load_bench.proofs.load_bit_by_bit_to_6.Goals as goal
 

@@ -1,6 +1,6 @@
 -- `record::add` meets its contract: what `added` says of the states and the lines. Assumes nothing.
 use mathlib.Core.Path.{refl}
-use Rattle.record.specs.Added.{nine, states_before, added}
+use Rattle.record.proofs.Added.{nine, states_before, added}
 use Rattle.record.proofs.add.Goals as goal
 
 pub state_of-requires : goal.state_of-requires

@@ -1,6 +1,6 @@
 -- `record::both_lines` meets its contract: the masks are nine bits. Assumes nothing.
 use native.Mathlib.Omega.{arith}
-use Rattle.record.specs.Marks.{whole_lt}
+use Rattle.record.proofs.Marks.{whole_lt}
 use Rattle.record.proofs.both_lines.Goals as goal
 
 pub line-requires : goal.line-requires

@@ -3,7 +3,7 @@ use Rattle.std.specs.Prelude.{◌≡◌, refl, Bool, true, false}
 use Rattle.std.proofs.Common.{ap, ◌∙◌}
 use mir.Val.{bool_byte}
 use Rattle.game.specs.Masks.{bit}
-use Rattle.record.specs.Storing.{cell_law}
+use Rattle.record.proofs.Storing.{cell_law}
 use Rattle.record.proofs.cell_bit.Goals as goal
 
 -- a test as a number

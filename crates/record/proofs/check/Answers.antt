@@ -3,7 +3,7 @@ use mathlib.Core.Path.{sym, ◌∙◌}
 use native.Mathlib.Omega.{arith}
 use Rattle.rules.specs.Refusals.{first_refusal}
 use Rattle.rules.proofs.Roundtrip.{side_lt}
-use Rattle.record.specs.Checked.{check_law, states_lt, own_lt, os_few}
+use Rattle.record.proofs.Checked.{check_law, states_lt, own_lt, os_few}
 use Rattle.record.proofs.check.Goals as goal
 
 pub returns-then-not-is_target : goal.returns-then-not-is_target

@@ -5,8 +5,8 @@ use Rattle.rules.specs.Rules.{Position, board_states, count}
 use Rattle.rules.specs.Rules.Player.{X, O}
 use Rattle.game.specs.Masks.{mask_of, nonzero}
 use Rattle.game.specs.Words.{Holds}
-use Rattle.record.specs.Counted.{counted}
-use Rattle.record.specs.Choosing.{held_cells, cells_few, choice_law}
+use Rattle.record.proofs.Counted.{counted}
+use Rattle.record.proofs.Choosing.{held_cells, cells_few, choice_law}
 use Rattle.record.proofs.impossible_choice.Goals.{After-count_cells-then-done_bits-eq0, Else-done_bits-eq0, then-words-eq-FREE_CHOICE, else-words-eq-FREE_CHOICE}
 use Rattle.record.proofs.impossible_choice.Goals as goal
 

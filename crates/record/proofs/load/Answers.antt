@@ -2,7 +2,7 @@
 use Rattle.std.proofs.lemmas.Result.{err_from_is_err_and}
 use Rattle.rules.specs.Record.{position_of}
 use Rattle.refusals.proofs.Passes.{number_positive}
-use Rattle.record.specs.Loading.{refused_to6, refused_choice}
+use Rattle.record.proofs.Loading.{refused_to6, refused_choice}
 use Rattle.record.proofs.load.Goals as goal
 
 pub returns-in_err-game-clause-code : goal.returns-in_err-game-clause-code

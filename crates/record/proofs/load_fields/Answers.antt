@@ -5,8 +5,8 @@ use Rattle.rules.specs.Rules.{board_states}
 use Rattle.rules.specs.Rules.Player.{X, O}
 use Rattle.record.specs.declared.Boards.{Boards}
 use Rattle.record.specs.Reading.{Coded, Checking, FieldsRead}
-use Rattle.record.specs.Counted.{counted}
-use Rattle.record.specs.Loading.{refused_code, coded, checking, holds}
+use Rattle.record.proofs.Counted.{counted}
+use Rattle.record.proofs.Loading.{refused_code, coded, checking, holds}
 use Rattle.record.proofs.load_fields.Goals.{After-count_cells-2}
 use Rattle.record.proofs.load_fields.Goals as goal
 

@@ -8,7 +8,7 @@ use Rattle.cells.specs.Reading.{CellsRead}
 use Rattle.cells.proofs.WordLaws.{side_in, target_in, last_in}
 use Rattle.cells.proofs.CellLaws.{words_read}
 use Rattle.record.specs.Reading.{FieldsRead}
-use Rattle.record.specs.Loading.{refused_2, refused_later, fields, some_fields}
+use Rattle.record.proofs.Loading.{refused_2, refused_later, fields, some_fields}
 use Rattle.record.proofs.load_to_6.Goals.{After-from, After-record_words-w}
 use Rattle.record.proofs.load_to_6.Goals as goal
 

@@ -1,7 +1,7 @@
 -- `record::show` meets its contract: the loop has what the first b boards show. Assumes nothing.
 use mathlib.Core.Path.{◌≡◌}
 use native.Mathlib.Omega.{arith}
-use Rattle.record.specs.Added.{nothing_shown, board_coded}
+use Rattle.record.proofs.Added.{nothing_shown, board_coded}
 use Rattle.record.proofs.show.Goals as goal
 
 pub loop-b-init : goal.loop-b-init

@@ -2,7 +2,7 @@
 use mathlib.Core.Path.{sym, ◌∙◌}
 use native.Mathlib.Omega.{arith}
 use borrow.Author.Tests.{eq-eqb, ne_eqb}
-use Rattle.record.specs.Marks.{whole_lt, state_law}
+use Rattle.record.proofs.Marks.{whole_lt, state_law}
 use Rattle.record.proofs.state_of.Goals as goal
 
 pub line-requires : goal.line-requires

@@ -5,7 +5,7 @@ use native.Mathlib.Omega.{arith}
 use lib.ListN.{set, drop, length-set}
 use Rattle.rules.specs.Rules.{answers}
 use Rattle.rules.specs.Record.{record_of}
-use Rattle.record.specs.Storing.{record_byte, write_next}
+use Rattle.record.proofs.Storing.{record_byte, write_next}
 use Rattle.record.proofs.store.Goals as goal
 
 pub loop-k-init : goal.loop-k-init

@@ -5,7 +5,7 @@ use mathlib.Core.List.{◌++◌}
 use lib.ListN.{length, drop}
 use Rattle.rules.specs.Rules.{Position, answers}
 use Rattle.game.specs.Words.{Holds}
-use Rattle.record.specs.Storing.{record_byte}
+use Rattle.record.proofs.Storing.{record_byte}
 use Rattle.record.proofs.store.Given as goal
 
 abbrev pub invariant-loop-k : goal.invariant-loop-k

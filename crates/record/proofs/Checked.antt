@@ -13,8 +13,8 @@ use Rattle.game.specs.Masks.{has_bit, has_bit_of, nonzero}
 use Rattle.game.specs.Lines.{line_in}
 use Rattle.record.specs.declared.Boards.{Boards}
 use Rattle.record.specs.Reading.{Whole, Checking, side_mask}
-use Rattle.record.specs.Marks.{whole_lt, x_line, o_line, done_mask}
-use Rattle.record.specs.Counted.{count_le}
+use Rattle.record.proofs.Marks.{whole_lt, x_line, o_line, done_mask}
+use Rattle.record.proofs.Counted.{count_le}
 
 fair : (s : Player) (x o : ℕ) → fair_turn s x o ≡ eqb x (o + side_bit s)
 fair X x o = rw add-zero

@@ -17,7 +17,7 @@ use Rattle.cells.proofs.Marks.{no_codes, putting, put_next}
 use Rattle.cells.proofs.MoreBoards.{no_threes, cells_coded}
 use Rattle.record.specs.declared.Shown.{Shown}
 use Rattle.record.specs.Reading.{Whole, Coded, Shows, Adding}
-use Rattle.record.specs.Marks.{any_more, x_line, o_line}
+use Rattle.record.proofs.Marks.{any_more, x_line, o_line}
 
 all_small : (cs : List ℕ) → all (λ c. ltb c 3) cs ≡ true → all (λ c. ltb c 4) cs ≡ true
 all_small [] h = refl

@@ -11,7 +11,7 @@ use Rattle.rules.proofs.Tests.{both_true}
 use Rattle.game.specs.Masks.{bit, mask_of, nonzero}
 use Rattle.game.specs.Words.{Holds}
 use Rattle.record.specs.Reading.{Coded}
-use Rattle.record.specs.Counted.{count_le}
+use Rattle.record.proofs.Counted.{count_le}
 
 -- no bit is set exactly if every code is 0
 no_bit : (cs : List ℕ) → eqb (mask_of nonzero cs) 0 ≡ all (eqb 0) cs

@@ -13,7 +13,7 @@ use Rattle.rules.specs.Rules.Player.{X, O}
 use Rattle.rules.specs.Record.{side_bit}
 use Rattle.game.specs.Masks.{ones_mask}
 use Rattle.record.specs.Reading.{Coded}
-use Rattle.record.specs.Marks.{count_append}
+use Rattle.record.proofs.Marks.{count_append}
 
 pub count_le : (k : ℕ) (cs : List ℕ) → count k cs ≤ length cs
 count_le k [] = omega arith
