@@ -4,7 +4,6 @@
 
 ghost use Rattle.std.specs.Prelude.{◌≡◌, ◌&&◌, ◌<◌, eqb, length};
 ghost use Rattle.words.specs.Words.{PHI, DELTA, word, Slot};
-ghost use Rattle.words.specs.Freeing.{plies};
 ghost use Rattle.climb.specs.Asks.{Recomputable, Recomputes, Finds, PhiRaisable, RaisesPhi, DeltaRaisable, RaisesDelta};
 ghost use Rattle.climb.specs.Asks.{Counted, Climbable, Climbs, Ascending, Stores, Raisable, Raises, Ascends};
 
@@ -93,10 +92,8 @@ fn count(x: Prover, pool: Pool, and: bool, bounds: Bounds) -> Prover
 
 // Stores the current node's numbers; if it is solved, frees all below and counts it.
 fn store(words: &mut [u32], path: &[u32; PLIES], todo: &mut [u32; PLIES], k: Ascent) -> Prover
-    requires room { length todo.old ≡ plies }
-    requires ascending { Ascending words.old path.now k.prover k.bounds.phi k.bounds.delta }
-    ensures room { length todo.new ≡ plies }
-    ensures stores { Stores words.old path.now k.prover k.bounds.phi k.bounds.delta words.new result }
+    requires { Ascending words.old path.now k.prover k.bounds.phi k.bounds.delta }
+    ensures { Stores words.old path.now k.prover k.bounds.phi k.bounds.delta words.new result }
 {
     let id = NodeID(path[k.prover.depth]);
     node_pool::set_bounds(words, id, k.bounds.phi, k.bounds.delta);
@@ -143,10 +140,8 @@ fn climb_step(
     todo: &mut [u32; PLIES],
     k: Ascent,
 ) -> ControlFlow<Prover, Ascent>
-    requires room { length todo.old ≡ plies }
-    requires ascending { Ascending words.old path.now k.prover k.bounds.phi k.bounds.delta }
-    ensures room { length todo.new ≡ plies }
-    ensures ascends { Ascends words.old path.now k words.new result }
+    requires { Ascending words.old path.now k.prover k.bounds.phi k.bounds.delta }
+    ensures { Ascends words.old path.now k words.new result }
 {
     let id = NodeID(path[k.prover.depth]);
     let was = node_pool::phi(words, id);
@@ -167,10 +162,8 @@ pub fn climb(
     todo: &mut [u32; PLIES],
     leaf: Ascent,
 ) -> Prover
-    requires room { length todo.old ≡ plies }
-    requires climbable { Climbable words.old path.now leaf.prover leaf.bounds.phi leaf.bounds.delta }
-    ensures room { length todo.new ≡ plies }
-    ensures climbs { Climbs words.old path.now leaf.prover leaf.bounds.phi leaf.bounds.delta words.new result }
+    requires { Climbable words.old path.now leaf.prover leaf.bounds.phi leaf.bounds.delta }
+    ensures { Climbs words.old path.now leaf.prover leaf.bounds.phi leaf.bounds.delta words.new result }
 {
     let mut k = leaf;
     loop {

@@ -321,8 +321,7 @@ pub fn free(words: &mut [u32], pool: Pool, id: NodeID) -> Pool
 
 // A node, if it exists, waits above the first `top`.
 fn wait(todo: &mut [u32; PLIES], top: usize, id: NodeID) -> usize
-    requires room { length todo.old ≡ plies }
-    requires top_lt_plies { (id.0 ≡ NONE → ⊥) → top < plies }
+    requires { (id.0 ≡ NONE → ⊥) → top < plies }
     ensures { Pushed todo.old top id.0 todo.new result }
 {
     if id.exists() {
@@ -335,10 +334,8 @@ fn wait(todo: &mut [u32; PLIES], top: usize, id: NodeID) -> usize
 
 // Frees the list of siblings from `first` on, and all below. `todo` has a length beside it: fixed memory and no heap.
 pub fn free_siblings(words: &mut [u32], todo: &mut [u32; PLIES], first: NodeID, pool: Pool) -> Pool
-    requires room { length todo.old ≡ plies }
-    requires freeable { Freeable Position words.old first.0 pool.vacant.head.0 pool.freed pool.allocated }
-    ensures room { length todo.new ≡ plies }
-    ensures frees_all { FreesAll words.old first pool words.new result }
+    requires { Freeable Position words.old first.0 pool.vacant.head.0 pool.freed pool.allocated }
+    ensures { FreesAll words.old first pool words.new result }
 {
     let mut p = pool;
     let mut top = wait(todo, 0, first);

@@ -26,7 +26,7 @@ pub fn base(d: usize) -> usize
 
 // Copies the words of ply d to the next: all 24, the last of which holds nothing, since three moves of eight words are quicker.
 fn copy_ply(positions: &mut [u16; POSITIONS], d: usize)
-    requires { (length positions.old ≡ 1968) × (d < 81) }
+    requires { d < 81 }
     ensures { Copied d positions.old positions.new }
 {
     positions.copy_within(base(d)..base(d) + PLY, base(d) + PLY);
@@ -34,7 +34,7 @@ fn copy_ply(positions: &mut [u16; POSITIONS], d: usize)
 
 // The position at ply d with a legal move made, at the next ply.
 pub fn push(positions: &mut [u16; POSITIONS], d: usize, m: Move)
-    requires { (length positions.old ≡ 1968) × (d < 81) × Movable positions.old (d * 24) m.0 }
+    requires { (d < 81) × Movable positions.old (d * 24) m.0 }
     ensures { Pushed d m.0 positions.old positions.new }
 {
     copy_ply(positions, d);
@@ -43,8 +43,7 @@ pub fn push(positions: &mut [u16; POSITIONS], d: usize, m: Move)
 
 // The root's position at ply 0.
 pub fn start(positions: &mut [u16; POSITIONS], g: Game)
-    requires { length positions.old ≡ 1968 }
-    ensures { (length positions.new ≡ 1968) × ((p : Position) → Holds p g.words 0 → Holds p positions.new 0) }
+    ensures { (p : Position) → Holds p g.words 0 → Holds p positions.new 0 }
 {
     positions[..23].copy_from_slice(&g.words);
 }

@@ -2,13 +2,11 @@
 use Rattle.std.proofs.Common.{◌≡◌, suc, length}
 use Rattle.plain.specs.Plain.{game}
 use Rattle.words.specs.Words.{Beyond}
-use Rattle.words.specs.Freeing.{plies}
 use Rattle.climb.specs.Asks.{climbed, Climbable, Going}
 use Rattle.climb.proofs.climb.Given as goal
 
 abbrev pub invariant-loop-next : goal.invariant-loop-next
 invariant-loop-next l = record {
-  room : length l.todo ≡ plies;
   long : length l.words ≡ length l.initial.words;
   past : Beyond l.initial.words l.words;
   going : (g : Climbable l.initial.words l.path l.initial.k.prover l.initial.k.bounds.phi l.initial.k.bounds.delta) → Going g.rule g.side l.words l.path g.ps l.k.prover l.k.bounds.phi l.k.bounds.delta (climbed (game g.rule g.side) g.at);

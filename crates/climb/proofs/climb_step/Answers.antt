@@ -3,16 +3,16 @@ use Rattle.climb.specs.Turns.{turn_same, turn_root, turn_asks, turn_up}
 use Rattle.climb.proofs.climb_step.Goals as goal
 
 pub returns-then-unchanged : goal.returns-then-unchanged
-returns-then-unchanged c = record { room = c.requires.room; ascends = λ g. turn_same _ _ _ _ _ g _ c.unchanged.ensures c.if-unchanged.true }
+returns-then-unchanged c = λ g. turn_same _ _ _ _ _ g _ c.unchanged.ensures c.if-unchanged.true
 
 pub returns-then-y-eq0 : goal.returns-then-y-eq0
 returns-then-y-eq0 c =
-    record { room = c.store-y.ensures.room; ascends = λ g. turn_root _ _ _ _ _ g _ c.unchanged.ensures c.if-unchanged.false _ _ (c.store-y.ensures.stores g) c.if-y-eq0.true }
+    λ g. turn_root _ _ _ _ _ g _ c.unchanged.ensures c.if-unchanged.false _ _ (c.store-y.ensures g) c.if-y-eq0.true
 
 pub ascend-requires : goal.ascend-requires
 ascend-requires c =
-    turn_asks _ _ _ _ _ c.requires.ascending _ c.unchanged.ensures c.if-unchanged.false _ _ (c.store-y.ensures.stores c.requires.ascending) _ c.phi-was.ensures c.if-y-eq0.false
+    turn_asks _ _ _ _ _ c.requires _ c.unchanged.ensures c.if-unchanged.false _ _ (c.store-y.ensures c.requires) _ c.phi-was.ensures c.if-y-eq0.false
 
 pub returns : goal.returns
 returns c =
-    record { room = c.store-y.ensures.room; ascends = λ g. turn_up _ _ _ _ _ g _ c.unchanged.ensures c.if-unchanged.false _ _ (c.store-y.ensures.stores g) _ c.phi-was.ensures c.if-y-eq0.false _ c.ascend.ensures }
+    λ g. turn_up _ _ _ _ _ g _ c.unchanged.ensures c.if-unchanged.false _ _ (c.store-y.ensures g) _ c.phi-was.ensures c.if-y-eq0.false _ c.ascend.ensures

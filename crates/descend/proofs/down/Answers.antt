@@ -26,7 +26,7 @@ packed-packed-requires c = child_slot c.requires.unsolved.0 (read (goal.at.packe
 
 pub push-requires : goal.push-requires
 push-requires c =
-    (c.requires.unsolved.0.stands.positions_long, above_leaves (goal.at.push-requires c).After-phi-phi, movable c.requires.unsolved.0 (read (goal.at.push-requires c).After-phi-phi) (read-child (goal.at.push-requires c).After-move_in-mv))
+    (above_leaves (goal.at.push-requires c).After-phi-phi, movable c.requires.unsolved.0 (read (goal.at.push-requires c).After-phi-phi) (read-child (goal.at.push-requires c).After-move_in-mv))
 
 pub overflow_add-path : goal.overflow_add-path
 overflow_add-path c = omega (arith, above_leaves (goal.at.overflow_add-path c).After-phi-phi)

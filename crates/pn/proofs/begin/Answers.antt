@@ -13,7 +13,7 @@ use Rattle.pn.proofs.begin.Goals as goal
 
 pub root_value-value-requires : goal.root_value-value-requires
 root_value-value-requires c =
-    (c.requires.pos, c.start.ensures.1 c.requires.pos c.requires.holds)
+    (c.requires.pos, c.start.ensures c.requires.pos c.requires.holds)
 
 pub alloc-node-requires : goal.alloc-node-requires
 alloc-node-requires c =
@@ -21,11 +21,11 @@ alloc-node-requires c =
 
 pub returns : goal.returns
 returns c p h a =
-    let here = c.start.ensures.1 p h in
+    let here = c.start.ensures p h in
     let value = c.root_value-value.ensures p here a in
     let node = c.alloc-node.ensures (all_spare _ c.requires.some c.requires.few) in
     begun c.args.rule p _ c.requires.some c.requires.few _ _ _ _ _ _ _ _ _ value
     (c.leaf_bounds-bounds.ensures c.args.rule p.side p 255 value (root_and c.args.rule p))
     (c.pack-packed.ensures ∙ ap (λ (m : ℕ). pack (number c.root_value-value.result) 0 (bit false) 0 m 255) c.none.ensures)
     node.number node.filled node.past
-    (get_or-set_same c.args.path.now 0 _ 0 (omega (arith, c.told-path))) (length-set c.args.path.now 0 _ ∙ c.told-path) c.start.ensures.0 here
+    (get_or-set_same c.args.path.now 0 _ 0 (omega (arith, c.told-path))) (length-set c.args.path.now 0 _ ∙ c.told-path) c.start.array_long here

@@ -29,17 +29,17 @@ pub climb-next-requires : goal.climb-next-requires
 climb-next-requires c =
     let u = c.requires in
     let at = at_leaf u c.descend-leaf.ensures in
-    record { room = c.told-todo; climbable = climbable u at (short u at c.is_short.ensures c.if-is_short.false) c.expand-grown.auto.words c.expand-grown.ensures }
+    climbable u at (short u at c.is_short.ensures c.if-is_short.false) c.expand-grown.auto.words c.expand-grown.ensures
 
 pub tick-requires : goal.tick-requires
 tick-requires c =
     let u = c.requires in
     let at = at_leaf u c.descend-leaf.ensures in
     let enough = short u at c.is_short.ensures c.if-is_short.false in
-    counter u at enough (climbed u at enough c.expand-grown.auto.words c.expand-grown.ensures c.climb-next.auto.words c.climb-next.ensures.climbs)
+    counter u at enough (climbed u at enough c.expand-grown.auto.words c.expand-grown.ensures c.climb-next.auto.words c.climb-next.ensures)
 
 pub returns : goal.returns
 returns c u =
     let at = at_leaf u c.descend-leaf.ensures in
     let enough = short u at c.is_short.ensures c.if-is_short.false in
-    counted u at enough (climbed u at enough c.expand-grown.auto.words c.expand-grown.ensures c.climb-next.auto.words c.climb-next.ensures.climbs) c.tick.ensures
+    counted u at enough (climbed u at enough c.expand-grown.auto.words c.expand-grown.ensures c.climb-next.auto.words c.climb-next.ensures) c.tick.ensures
