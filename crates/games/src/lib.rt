@@ -42,7 +42,8 @@ pub struct FirstPass {
     pub unspent: u64,
 }
 
-// The first pass of n games, with parts of so many words: each runs up to its share.
+// The first pass of n games, with parts of so many words: each runs up to its share. Both passes take shares, n, size and c: a struct for two calls would be no
+// plainer.
 fn first_pass(
     bytes: &[u8],
     words: &mut [u32],

@@ -42,8 +42,8 @@ module _ (bytes : List ℕ) (capacity rule : ℕ) (L : Limits) where
 
   pub accept_late : refusal bytes ≡ 0 → (n : ℕ) (in_range : Bool) → in_range ≡ stay_in_range L.stay
       → n ≡ first_refusal (
-        refuses 8 (ltb capacity pool_least) ∷ refuses 9 (ltb pool_most capacity) ∷ refuses 10 (ltb last_rule rule) ∷ refuses 10 (ltb L.interval interval_least)
-        ∷ refuses 10 (ltb interval_most L.interval) ∷ refuses 10 (ltb budget_most L.budget) ∷ refuses 21 (not in_range) ∷ []
+      refuses 8 (ltb capacity pool_least) ∷ refuses 9 (ltb pool_most capacity) ∷ refuses 10 (ltb last_rule rule) ∷ refuses 10 (ltb L.interval interval_least)
+      ∷ refuses 10 (ltb interval_most L.interval) ∷ refuses 10 (ltb budget_most L.budget) ∷ refuses 21 (not in_range) ∷ []
       )
       → n ≡ search_refusal bytes capacity rule L
   unfolding search_refusal

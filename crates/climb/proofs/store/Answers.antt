@@ -15,4 +15,4 @@ returns-then-not-solved c = λ g. unsolved_stored _ _ _ _ _ g _ c.set_bounds.ens
 pub returns : goal.returns
 returns c =
     λ g. solved_stored _ _ _ _ _ g _ c.set_bounds.ensures _ c.first_child-first.ensures _ c.none.ensures _ c.set_first_child.ensures _ c.solved.ensures
-          c.if-not-solved.false _ c.packed.ensures _ c.and_in-and.ensures _ _ (c.free_siblings-pool.ensures _) _ c.count.ensures
+    c.if-not-solved.false _ c.packed.ensures _ c.and_in-and.ensures _ _ (c.free_siblings-pool.ensures _) _ c.count.ensures
