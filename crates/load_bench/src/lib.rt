@@ -87,7 +87,7 @@ fn load_bit_by_bit(bytes: &[u8]) -> Result<Game, Refusal>
     Ok(game)
 }
 
-// A load as C has it: 0 and the position's words, or the number of the check that refuses the record.
+// A load as C has it: 0 and the position's words, or the number of the check that refuses the record. The C interface needs both.
 #[repr(C)]
 #[derive(Clone, Copy)]
 pub struct BenchLoaded {

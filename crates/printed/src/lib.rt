@@ -29,7 +29,8 @@ const LIMITS: SearchLimits = SearchLimits {
 // The bytes of a record and a rule.
 const INPUT_LENGTH: usize = RECORD_LENGTH + 1;
 
-// A line's text at the front of an array, zeros after it. The longest has seven letters, eight times a space with twenty digits, and a newline.
+// A line's text at the front of an array, zeros after it: there is no heap, and contracts see the text alone. The longest has seven letters, eight times a space
+// with twenty digits, and a newline.
 #[derive(Drop)]
 pub struct Line {
     bytes: [u8; 176],
@@ -63,7 +64,7 @@ impl Line {
         self.length = end;
     }
 
-    // The digits of a tenth of n, if n has more than one, and the last digit.
+    // The digits of a tenth of n, if n has more than one, and the last digit. By hand, since the contracts say numbers by `decimal` of specs/Printed.antt.
     fn put_number(&mut self, n: u64)
         requires { length self.old + length (decimal n) ≤ 176 }
         ensures { self.new ≡ self.old ++ decimal n }

@@ -113,7 +113,7 @@ fn count_cells(masks: &[u16]) -> u32
     masks.iter().map(|m| m.count_ones()).sum()
 }
 
-// The mask of the side to move.
+// The mask of the side to move. Tried in its place in `check`: the proof then goes through the two cases again at each use of the mask, and is no plainer.
 fn of_side(codes: Codes, side: u8) -> u16
     ensures { result ≡ side_mask codes side }
 {
