@@ -20,7 +20,7 @@ use prove::Evaluation;
 use refusals::Refusal;
 use searches::SearchLimits;
 
-// A book and its count are two parameters in all functions here, as C lends them.
+// A book and its count are two parameters in all functions here, as the C interface lends them to the exports.
 
 // What add answers: the verdict of a pair that was held; or a search's, and the count after it. Only a True or False is stored.
 #[derive(Clone, Copy)]

@@ -88,7 +88,7 @@ fn board_bits(w: RecordWords, b: usize) -> u64
     (w.third >> (145 - 18 * b)) % 262144
 }
 
-// The masks of three codes, by their six bits: lent, since a constant table is put on the stack by each function that uses it.
+// The masks of three codes, by their six bits: lent from a static.
 fn triple_table() -> &'static [u32; 64]
     ensures { result.now ≡ triple_table }
 {

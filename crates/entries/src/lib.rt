@@ -8,6 +8,9 @@ ghost use Rattle.entries.specs.Entries.{rule_bits, is_trainer, caller_of, may_re
 ghost use Rattle.entries.specs.Entries.{new_entry, storing, with_entries, with_mark, marking};
 ghost use Rattle.entries.specs.SameWords.{little_endian, SameWord};
 
+// A book and its count of used entries are two parameters, as the C interface lends them. Words are read least significant byte first, those of a record (crate
+// cells) most significant first: two methods of the library.
+
 // The bytes of a record, and of an entry.
 const RECORD: usize = 21;
 

@@ -31,8 +31,8 @@ pub struct Siblings {
     pub last: NodeID,
 }
 
-// They, and the numbers that they give their parent. Ended: the last made has delta 0; as an enum of two cases all other fields would stand twice. Two numbers and
-// no Bounds: as a pair inside this struct an expansion took an eighth more instructions (docs/DECISIONS.md).
+// They, and the numbers that they give their parent. Ended: the last made has delta 0, which the loops ask; before the first child it is false. Two numbers and no
+// Bounds: a prototype with a pair here and in the climb's state took an eighth more instructions (docs/DECISIONS.md).
 #[derive(Clone, Copy)]
 pub struct Made {
     pub siblings: Siblings,
@@ -234,7 +234,7 @@ fn count(x: Prover, m: Made) -> Prover
     }
 }
 
-// Expands the leaf at the path's place `depth`.
+// Expands the leaf at the path's place `x.depth`.
 pub fn expand(
     words: &mut [u32],
     path: &[u32; PLIES],

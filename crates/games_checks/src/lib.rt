@@ -97,7 +97,7 @@ pub fn earliest(bytes: &[u8], n: usize) -> Result<(), GameRefusal>
     found
 }
 
-// The sum of the shares of n games, if none of them is above the range.
+// The sum of the shares of n games, if none of them is above the range. Eight shares and a number of games, as the C interface lends them.
 fn summed(shares: &[u64; MOST_GAMES], n: usize) -> Option<u64>
     requires { n ≤ 8 }
     ensures { result ≡ sum_within (shares_of shares.now n) }

@@ -13,7 +13,7 @@ use game::Game;
 use record::RECORD_LENGTH;
 use refusals::Refusal;
 
-// Its last bit, which is 0.
+// A record's last bit, which is 0.
 const LAST_BIT: usize = 167;
 
 // The cells of a record as C has them: X's nine masks, O's, and five words without a meaning; rest is 0 exactly if no code is 3.

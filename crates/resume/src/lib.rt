@@ -24,7 +24,7 @@ pub struct Kept {
     pub attacker: usize,
 }
 
-// What stands where no search is kept.
+// What stands where no search is kept: games keeps eight in an array, and an Option each would be taken apart at every game of the second pass.
 pub fn nothing() -> Kept {
     let vacant = Vacant {
         head: NodeID::none(),

@@ -32,7 +32,7 @@ pub const MOST_INTERVAL: u64 = 1000000;
 
 pub const MOST_BUDGET: u64 = 3000000;
 
-// What a search is given beside the record, the pool and the rule. The settings of pn, of games and of players share three fields with it: one struct within the
+// What a search is given beside the record, the pool and the rule. The settings of pn, of games and of players share three or four fields with it: one struct within the
 // others would give each read one more name, and the records of the definitions (Limits, common, players) are flat.
 #[derive(Clone, Copy)]
 pub struct SearchLimits {

@@ -14,7 +14,7 @@ pub type Output = [u8; 256];
 // Whether a line's answer is the library's.
 pub type Outcome = Result<bool, Unreadable>;
 
-// An answer: 0 or a refusal's number; the refusal's index, 0 with a result; and a result, or what stands for it beside a refusal.
+// An answer: 0 or a refusal's number; the refusal's index, 0 with a result; and a result, or what stands for it beside a refusal: numbers, as the C interface gives them.
 #[derive(Clone, Copy, PartialEq, Eq)]
 pub struct Answer<T> {
     pub code: u64,

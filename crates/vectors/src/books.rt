@@ -67,7 +67,7 @@ fn new_book(mut line: Line<'_>, book: &mut Book) -> Outcome {
     Ok(true)
 }
 
-// Puts the bytes that the next word spells into a book that has none.
+// A book of the bytes that the next word spells.
 fn read_bytes(line: &mut Line<'_>) -> Result<Book, Unreadable> {
     let mut bytes = [0; 1100];
     let length = line.bytes(&mut bytes)?;
@@ -134,7 +134,7 @@ fn add(mut line: Line<'_>, asked: Asked<'_>, book: &mut Book, want: &mut Book) -
     let x = search_lines::read_settings(&mut line)?;
     let mut pool = fields::fresh_pool();
     let before = book.count;
-    // Tried, and no proof came: to lend `book.bytes` itself, a field beside a ghost field. So it is copied out and back.
+    // Tried, and no proof came: to lend `book.bytes`, a field beside a ghost field, to a call with a contract. So it is copied out and back.
     let mut bytes = book.bytes;
     let got = ultimattt::book_exports::uttt_book_add(
         asked.trainer,

@@ -29,7 +29,7 @@ fn put_mark(want: &mut Book, x: Asked<'_>) {
 // `book publish WHO RECORD RULE => published`, from the arrow on. The numbers are 1 for published, 0 if the book holds none.
 pub fn publish(mut line: Line<'_>, x: Asked<'_>, book: &mut Book, want: &mut Book) -> Outcome {
     line.expect(b"=>")?;
-    // Tried, and no proof came: to lend `book.bytes` itself, a field beside a ghost field. So it is copied out and back.
+    // Tried, and no proof came: to lend `book.bytes`, a field beside a ghost field, to a call with a contract. So it is copied out and back.
     let mut bytes = book.bytes;
     let got = ultimattt::book_exports::uttt_book_publish(
         x.trainer,
