@@ -1,5 +1,5 @@
 // The calls that lend a pool and no book, search and full verdict: each reads the rest of its line, after the record, and runs the call.
-ghost use Rattle.std.specs.Prelude.{◌≤◌, IfOk};
+ghost use Rattle.std.specs.Prelude.{◌≤◌, IfOk, IsOk};
 ghost use Rattle.vectors.specs.Lent.{Lendable};
 
 use crate::answers::{Answer, Outcome};
@@ -22,7 +22,8 @@ pub struct Settings {
 
 // How many words of a pool of so many nodes are lent: five for each, and up to four more.
 pub fn lent_words(nodes: u64) -> Result<usize, Unreadable>
-    ensures { IfOk result (λ words. words ≤ 20484) }
+    ensures few { IfOk result (λ words. words ≤ 20484) }
+    ensures some { nodes ≤ 4096 → IsOk result }
 {
     if nodes <= MOST_NODES {
         Ok((nodes * 5 + nodes % 5) as usize)
