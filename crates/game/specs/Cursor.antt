@@ -56,10 +56,10 @@ pub moves_end : (p : Position) (i : ℕ) → 81 ≤ i → moves_from p i ≡ []
 unfolding moves_from
 moves_end p i h = let e : 81 - i ≡ 0 = omega arith in rw e
 
--- one step of a cursor from place i to place j: the first move of those left, and from j on the rest; or none is left
+-- one step of a cursor from place i to place j: the first move of those left, and from j on the rest; or none is left, and the cursor stays where it is
 abbrev pub Stepped : Position → ℕ → Option Move → ℕ → Type 0
 Stepped p i (Some m) j = (moves_from p i ≡ m.0 ∷ moves_from p j) × (i < j)
-Stepped p i None j = moves_from p i ≡ []
+Stepped p i None j = (moves_from p i ≡ []) × (j ≡ i)
 
 -- what a step says, by its two answers
 module _ (ws : List ℕ) (base i j : ℕ) (s : Option Move) (stepped : (p : Position) → Holds p ws base → Stepped p i s j) where
@@ -67,7 +67,7 @@ module _ (ws : List ℕ) (base i j : ℕ) (s : Option Move) (stepped : (p : Posi
   next_is m e p h = subst (λ (x : Option Move). Stepped p i x j) e (stepped p h)
 
   pub end_is : s ≡ None → (p : Position) → Holds p ws base → moves_from p i ≡ []
-  end_is e p h = subst (λ (x : Option Move). Stepped p i x j) e (stepped p h)
+  end_is e p h = (subst (λ (x : Option Move). Stepped p i x j) e (stepped p h)).0
 
 -- where a move is left, the place lies within the 81
 pub moves_within : (p : Position) (i m : ℕ) (ms : List ℕ) → moves_from p i ≡ m ∷ ms → i < 81

@@ -34,7 +34,7 @@ impl MoveIterator {
         MoveIterator { at: 0 }
     }
 
-    // The next legal move, and the cursor past it; none, if no move is left.
+    // The next legal move, and the cursor past it; none, with the cursor where it was, if no move is left.
     #[tactic(auto, using(crate::specs::Cursor::looking_start, crate::specs::Cursor::looking_found))]
     pub fn next(&mut self, words: &[u16], base: usize) -> Option<Move>
         requires { Held words.now base }

@@ -33,4 +33,4 @@ loop-m-preserved c l a =
     counted_next l _ _ _ k _ _ stepped _ (c.ends_making.ensures l a.0 (counted_legal l _ _ _ k _ _ stepped)) c.if-ends_making.false
 
 pub returns : goal.returns
-returns c l a = counted_done l _ _ _ (c.loop-m.invariant l a) (c.in_default.ensures _ l.holds)
+returns c l a = counted_done l _ _ _ (c.loop-m.invariant l a) (c.in_default.ensures _ l.holds).0
