@@ -82,9 +82,7 @@ fn load_bit_by_bit(bytes: &[u8]) -> Result<Game, Refusal>
     ensures code { refusal_code result ≡ refusal bytes.now }
     ensures position { IfOk result (λ g. Holds (position_of bytes.now) g.words 0) }
 {
-    let game = load_bit_by_bit_to_6(bytes)?;
-    record::check_choice(&game)?;
-    Ok(game)
+    record::check_choice(load_bit_by_bit_to_6(bytes))
 }
 
 // A load as C has it: 0 and the position's words, or the number of the check that refuses the record. The C interface needs both.
@@ -112,14 +110,42 @@ impl From<Result<Game, Refusal>> for BenchLoaded {
     }
 }
 
+// The words that were read of a refused record; zeros where its length or its last bit refuses it.
+fn refused_words(bytes: &[u8]) -> [u16; 23] {
+    if bytes.len() != RECORD_LENGTH {
+        return [0; 23];
+    }
+    let w = cells::record_words(bytes);
+    if w.third % 2 != 0 {
+        return [0; 23];
+    }
+    let target = ((w.first >> 59) % 16) as u8;
+    let side = (w.first >> 63) as u8;
+    record::read_words(Cells::from(w), target, side)
+}
+
+// A load's answer: a record that one of checks 2 to 6 refuses has the words that were read of it.
+fn answer(bytes: &[u8], loaded: Result<Game, Refusal>) -> BenchLoaded
+    ensures { (result.code ≡ refusal_code loaded) × IfOk loaded (λ g. result.words ≡ g.words) }
+{
+    let answer = BenchLoaded::from(loaded);
+    match loaded {
+        Ok(_) | Err(Refusal::ImpossibleChoice) => answer,
+        Err(_) => BenchLoaded {
+            words: refused_words(bytes),
+            ..answer
+        },
+    }
+}
+
 pub fn bench_load(bytes: &[u8]) -> BenchLoaded
     ensures { (result.code ≡ refusal bytes.now) × (result.code ≡ 0 → Holds (position_of bytes.now) result.words 0) }
 {
-    record::load(bytes).into()
+    answer(bytes, record::load(bytes))
 }
 
 pub fn bench_load_bit_by_bit(bytes: &[u8]) -> BenchLoaded
     ensures { (result.code ≡ refusal bytes.now) × (result.code ≡ 0 → Holds (position_of bytes.now) result.words 0) }
 {
-    load_bit_by_bit(bytes).into()
+    answer(bytes, load_bit_by_bit(bytes))
 }

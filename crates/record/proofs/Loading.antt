@@ -10,9 +10,9 @@ use Rattle.std.proofs.lemmas.List.Edits.{sets}
 use Rattle.std.proofs.Math.Seq.{sets-eq, length-sets}
 use Rattle.rules.specs.Rules.{Player, mark, count, board, board_states}
 use Rattle.rules.specs.Rules.Player.{X, O}
-use Rattle.rules.specs.Record.{bit_at, number, side_bit, player_of, position_of, position_refusal, refusal_to6, impossible_choice, refusal}
-use Rattle.rules.specs.Refusals.{refuses, first_refusal}
-use Rattle.rules.proofs.RefusalLaws.{first_refuses, last_refuses}
+use Rattle.rules.specs.Record.{bit_at, number, side_bit, player_of, position_of, position_refusal, refusal_to6}
+use Rattle.rules.specs.Refusals.{first_refusal}
+use Rattle.rules.proofs.RefusalLaws.{last_refuses}
 use Rattle.rules.proofs.Checks.{passes}
 use Rattle.rules.proofs.Roundtrip.{load_bits, load_whole, bit_back}
 use Rattle.game.specs.Masks.{mask}
@@ -36,15 +36,6 @@ module _ (bs : List ℕ) where
   pub refused_later : length bs ≡ 21 → bit_at bs 167 ≡ 0 → position_refusal (position_of bs) ≡ refusal_to6 bs
   unfolding refusal_to6 first_refusal
   refused_later e z = rw (e, z) (sym (last_refuses (position_refusal (position_of bs))))
-
-  -- checks 1 to 6 refuse, or else check 22 decides
-  pub refused_to6 : (n : ℕ) → (n ≡ 0 → ⊥) → n ≡ refusal_to6 bs → n ≡ refusal bs
-  unfolding refusal
-  refused_to6 n z e = rw (← e) (sym (first_refuses n _ z))
-
-  pub refused_choice : (n : ℕ) → 0 ≡ refusal_to6 bs → n ≡ refuses 22 (impossible_choice (position_of bs)) → n ≡ refusal bs
-  unfolding refusal first_refusal
-  refused_choice n z e = rw (← z, ← e) (sym (last_refuses n))
 
 -- What was read of the bytes, whichever way: the cells, the target and the side.
 module _ (bs : List ℕ) (r : Cells) (t s : ℕ) (read : CellsRead (position_of bs).cells r) (et : t ≡ number (bit_at bs) 1 4) (es : s ≡ bit_at bs 0) where

@@ -1,6 +1,7 @@
 -- What the code keeps of a record that is checked: the boards so far, how many cells each side has, and what was read. Rests on the rules and the reading of cells.
-use Rattle.std.specs.Prelude.{◌≡◌, true, cond, List, ℕ, ◌<◌, eqb, ltb, length}
-use Rattle.rules.specs.Rules.{Position, answers, all, any, count, state, board}
+use Rattle.std.specs.Prelude.{◌≡◌, true, cond, List, [], ◌∷◌, ℕ, ◌<◌, eqb, ltb, length}
+use Rattle.std.proofs.lemmas.List.Edits.{sets}
+use Rattle.rules.specs.Rules.{Position, answers, all, any, count, state, board, board_states}
 use Rattle.rules.specs.Record.{side_bit, both_lines}
 use Rattle.cells.specs.declared.Codes.{Codes}
 use Rattle.cells.specs.declared.Cells.{Cells}
@@ -55,3 +56,13 @@ pub record FieldsRead (r : Cells) (target side : ℕ) : Type 0 where
   pub read : CellsRead position.cells r
   pub aims : target ≡ position.target
   pub moves : side ≡ side_bit position.side
+
+-- The words of a position, from those of its cells: the boards' states, the target and the side to move after them.
+abbrev pub filled : List ℕ → Codes → (target side : ℕ) → List ℕ
+filled ws states target side = sets ws 18 (states.x ∷ states.o ∷ states.rest ∷ target ∷ side ∷ [])
+
+-- The words are those of these cells, and what was read of the target and the side.
+pub record FilledFrom (cs ws : List ℕ) (target side : ℕ) (v : List ℕ) : Type 0 where
+  pub states : Codes
+  pub masks : Masks (board_states cs) states
+  pub words : v ≡ filled ws states target side

@@ -6,12 +6,12 @@ ghost use Rattle.std.specs.Prelude.{◌≡◌, ◌&&◌, ◌||◌, eqb, ltb, [],
 ghost use Rattle.std.specs.Int.Count.{ones};
 ghost use Rattle.rules.specs.Rules.{Position, mark, count, state};
 ghost use Rattle.rules.specs.Record.{number, position_of, position_refusal, refusal_to6, impossible_choice, refusal, record_bit, record_of};
-ghost use Rattle.rules.specs.Refusals.{refuses};
+ghost use Rattle.rules.specs.Refusals.{refuses, first_refusal};
 ghost use Rattle.refusals.specs.Numbers.{refusal_code};
 ghost use Rattle.game.specs.Masks.{has_bit};
 ghost use Rattle.game.specs.Lines.{line_in};
 ghost use Rattle.game.specs.Words.{Holds, Held};
-ghost use Rattle.record.specs.Reading.{Whole, Coded, Shows, Adding, Checking, FieldsRead, side_mask};
+ghost use Rattle.record.specs.Reading.{Whole, Coded, Shows, Adding, Checking, FieldsRead, FilledFrom, filled, side_mask};
 
 use cells::{Cells, Codes};
 use game::Game;
@@ -168,6 +168,30 @@ fn check(boards: Boards, target: u8, side: u8) -> Result<(), Refusal>
     ])
 }
 
+// A position's words, from those of its cells: the boards' states, the target and the side after them.
+fn fill(mut words: [u16; 23], states: Codes, target: u8, side: u8) -> [u16; 23]
+    ensures { result ≡ filled words states target side }
+{
+    words[X_WON] = states.x;
+    words[O_WON] = states.o;
+    words[DRAWN] = states.rest;
+    words[TARGET] = target as u16;
+    words[SIDE] = side as u16;
+    words
+}
+
+// The words that were read, whatever checks 2 to 6 say of the position: load_bench's exports answer with them where one of these refuses it. Zeros if a cell has code 3.
+pub fn read_words(read: Cells, target: u8, side: u8) -> [u16; 23]
+    requires { FieldsRead read target side }
+    ensures { (g : FieldsRead read target side) → read.rest ≡ 0 → FilledFrom g.position.cells read.words target side result }
+{
+    let Cells { words, rest } = read;
+    if rest != 0 {
+        return [0; 23];
+    }
+    fill(words, show(&words).states, target, side)
+}
+
 // All that comes after reading: check 2 of the cells, the other checks, and the position's words.
 pub fn load_fields(read: Cells, target: u8, side: u8) -> Result<Game, Refusal>
     requires { FieldsRead read target side }
@@ -177,7 +201,7 @@ pub fn load_fields(read: Cells, target: u8, side: u8) -> Result<Game, Refusal>
     if read.rest != 0 {
         return Err(Refusal::Codes);
     }
-    let mut words = read.words;
+    let words = read.words;
     let shown = show(&words);
     let boards = Boards {
         shown,
@@ -185,12 +209,9 @@ pub fn load_fields(read: Cells, target: u8, side: u8) -> Result<Game, Refusal>
         os: count_cells(&words[9..18]),
     };
     check(boards, target, side)?;
-    words[X_WON] = shown.states.x;
-    words[O_WON] = shown.states.o;
-    words[DRAWN] = shown.states.rest;
-    words[TARGET] = target as u16;
-    words[SIDE] = side as u16;
-    Ok(Game { words })
+    Ok(Game {
+        words: fill(words, shown.states, target, side),
+    })
 }
 
 // Checks 1 to 6, in their order, and the position's words.
@@ -221,15 +242,18 @@ fn impossible_choice(words: &[u16; 23]) -> bool
         && count_cells(&words[..9]) + count_cells(&words[9..18]) != 0
 }
 
-// Check 22, of a position that checks 1 to 6 let pass.
-pub fn check_choice(game: &Game) -> Result<(), Refusal>
-    requires { Held game.now.words 0 }
-    ensures { (p : Position) → Holds p game.now.words 0 → refusal_code result ≡ refuses 22 (impossible_choice p) }
+// Check 22 after checks 1 to 6, which gave the position or a refusal.
+pub fn check_choice(loaded: Result<Game, Refusal>) -> Result<Game, Refusal>
+    requires { IfOk loaded (λ g. Held g.words 0) }
+    ensures code { (p : Position) → IfOk loaded (λ g. Holds p g.words 0)
+        → refusal_code result ≡ first_refusal (refusal_code loaded ∷ refuses 22 (impossible_choice p) ∷ []) }
+    ensures position { (p : Position) → IfOk loaded (λ g. Holds p g.words 0) → IfOk result (λ g. Holds p g.words 0) }
 {
+    let game = loaded?;
     if impossible_choice(&game.words) {
         return Err(Refusal::ImpossibleChoice);
     }
-    Ok(())
+    Ok(game)
 }
 
 // All checks of a record, in their order, and the position's words.
@@ -237,9 +261,7 @@ pub fn load(bytes: &[u8]) -> Result<Game, Refusal>
     ensures code { refusal_code result ≡ refusal bytes.now }
     ensures position { IfOk result (λ g. Holds (position_of bytes.now) g.words 0) }
 {
-    let game = load_to_6(bytes)?;
-    check_choice(&game)?;
-    Ok(game)
+    check_choice(load_to_6(bytes))
 }
 
 // A bit of cell i: the high one says O (1), the low one X (0).

@@ -43,4 +43,4 @@ unfolding checking checked coded board_states
 returns-clause-position c g =
     let at = (goal.at.returns-clause-position c).After-count_cells-2 in
     let shows = c.show-shown.ensures (coded _ _ _ g c.if-read-ne0.false) in
-    holds _ _ _ g _ shows.states (sym (c.in_ok-check.ensures (checked at g)))
+    rw c.fill.ensures (holds _ _ _ g _ shows.states (sym (c.in_ok-check.ensures (checked at g))))
