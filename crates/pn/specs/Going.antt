@@ -2,7 +2,7 @@
 use Rattle.std.specs.Prelude.{◌≡◌, refl, Option, Some, None, IsSome, IsNone, ◌||◌, List, ℕ, ◌+◌, ◌*◌, ◌≤◌, ◌<◌, eqb, length, get_or}
 use Rattle.std.proofs.Math.Path.{ap, sym}
 use Rattle.std.proofs.lemmas.Option.{none-some}
-use Rattle.std.proofs.Common.{◌∙◌, arith, true≢false}
+use Rattle.std.proofs.Common.{◌∙◌, true≢false}
 use Rattle.std.proofs.Math.Bool.{true, cond}
 use Rattle.rules.specs.Rules.{Position, count}
 use Rattle.machine.specs.Tree.{solved, proof_of, disproof_of}
@@ -22,12 +22,11 @@ use Rattle.stay.specs.Margin.{stay_of, StayInRange}
 use Rattle.pn.specs.Ticks.{Ticks}
 use Rattle.pn.specs.Courses.{Leads, Ends, Spent, leads_again}
 use Rattle.pn.specs.Root.{root_place, root_held}
-use Rattle.pn.specs.Results.{machine_settings, cause_number, result_of}
+use Rattle.pn.specs.Results.{machine_settings, cause_number, Budget, result_of}
 use Rattle.pn.specs.declared.Settings.{Settings}
 use Rattle.pn.specs.declared.Running.{Running}
 use Rattle.pn.specs.declared.SearchResult.{SearchResult}
 use Rattle.pn.specs.declared.Cause.{Cause}
-use Rattle.pn.specs.declared.Cause.TheVariants.{Solved, Budget, Pool, Limit}
 
 -- the policy of the settings, for a search of p
 abbrev pub policy_for : (s : Settings) (p : Position) → machine.Policy (game_of s.rule p)
@@ -68,11 +67,8 @@ pub stopped_by : (o : Option Cause) → IsSome o → (c : Cause) × (o ≡ Some 
 stopped_by None e = absurd (true≢false (sym e))
 stopped_by (Some c) e = (c, refl)
 
-one_budget : (c : Cause) → cause_number c ≡ 1 → c ≡ Budget
-one_budget Solved e = absurd (omega arith)
-one_budget Budget e = refl
-one_budget Pool e = absurd (omega arith)
-one_budget Limit e = absurd (omega arith)
+pub one_budget : (c : Cause) → cause_number c ≡ 1 → c ≡ Budget
+one_budget c e = ap (λ (n : ℕ). record { 0 = n }) e
 
 -- the same settings with another budget, and a search that takes up again
 abbrev pub with_budget : Settings → ℕ → Settings

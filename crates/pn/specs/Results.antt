@@ -7,7 +7,6 @@ use Rattle.stay.specs.Margin.{stay_of}
 use Rattle.pn.specs.declared.Settings.{Settings}
 use Rattle.pn.specs.declared.SearchResult.{SearchResult}
 use Rattle.pn.specs.declared.Cause.{Cause}
-use Rattle.pn.specs.declared.Cause.TheVariants.{Solved, Budget, Pool, Limit}
 
 -- the machine's settings, with the capacity in nodes of a pool of these words
 abbrev pub machine_settings : List ℕ → Settings → machine.Settings
@@ -15,10 +14,20 @@ machine_settings w s = record { pool = capacity w; limit = s.limit; budget = s.b
 
 -- a cause as the machine has it
 abbrev pub cause_number : Cause → ℕ
-cause_number Solved = 0
-cause_number Budget = 1
-cause_number Pool = 2
-cause_number Limit = 3
+cause_number c = c.0
+
+-- the causes that have a name
+abbrev pub Solved : Cause
+Solved = record { 0 = 0 }
+
+abbrev pub Budget : Cause
+Budget = record { 0 = 1 }
+
+abbrev pub Pool : Cause
+Pool = record { 0 = 2 }
+
+abbrev pub Limit : Cause
+Limit = record { 0 = 3 }
 
 -- the nine fields of a SearchResult as the machine has them
 abbrev pub result_of : SearchResult → machine.Result

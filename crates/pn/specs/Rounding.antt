@@ -29,13 +29,12 @@ use Rattle.prover.specs.Stands.{Stands, Searching}
 use Rattle.stay.specs.Margin.{stay_of}
 use Rattle.pn.specs.Ticks.{Ticks, tick_some, tick_due, tick_again, tick_not_due, tick_next}
 use Rattle.pn.specs.Courses.{Leads, Ends, Spent, ends_solved, ends_spent, ends_short, ends_over, leads_on}
-use Rattle.pn.specs.Results.{machine_settings, cause_number}
+use Rattle.pn.specs.Results.{machine_settings, cause_number, Solved, Budget, Pool, Limit}
 use Rattle.pn.specs.Going.{Going, Ranges, policy_for, settings_long}
 use Rattle.pn.specs.Ticked.{Ticked}
 use Rattle.pn.specs.declared.Settings.{Settings}
 use Rattle.pn.specs.declared.Running.{Running}
 use Rattle.pn.specs.declared.Cause.{Cause}
-use Rattle.pn.specs.declared.Cause.TheVariants.{Solved, Budget, Pool, Limit}
 
 -- step 5 allocates nothing
 climb_allocated : (G : Game) (up : List (machine.Ancestor G.Pos)) (c : machine.Counts) (n : Node G.Pos) (ks : Children G.Pos) → (machine.climb G up c n ks).counts.allocated ≡ c.allocated

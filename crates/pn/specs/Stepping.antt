@@ -10,14 +10,13 @@ use Rattle.plain.specs.Plain.{game_of}
 use Rattle.words.specs.Words.{PHI, DELTA, word, Beyond}
 use Rattle.prover.specs.declared.Prover.{Prover}
 use Rattle.prover.specs.Stands.{Stands}
-use Rattle.pn.specs.Results.{machine_settings}
+use Rattle.pn.specs.Results.{machine_settings, Solved, Budget, Pool}
 use Rattle.pn.specs.Going.{Going, Ranges, policy_for, solved_is}
 use Rattle.pn.specs.Ticked.{Ticked}
 use Rattle.pn.specs.Rounding.{goes_after, more_expanded, stop_solved, stop_spent, stop_short}
 use Rattle.pn.specs.declared.Settings.{Settings}
 use Rattle.pn.specs.declared.Running.{Running}
 use Rattle.pn.specs.declared.Cause.{Cause}
-use Rattle.pn.specs.declared.Cause.TheVariants.{Solved, Budget, Pool}
 
 -- a search that has not stopped stands there; root is its start's side to move
 pub record Steppable (w path ps : List ℕ) (x : Running) (s : Settings) (root : ℕ) : Type 0 where

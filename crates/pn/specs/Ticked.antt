@@ -1,9 +1,9 @@
 -- Step 6 by its three answers. Rests on the code's state of a search.
 use Rattle.std.specs.Prelude.{◌≡◌, ℕ, ◌-◌, ◌<◌, ◌≤◌, Some, IsNone}
 use Rattle.prover.specs.declared.Prover.{Prover}
+use Rattle.pn.specs.Results.{Limit}
 use Rattle.pn.specs.declared.Settings.{Settings}
 use Rattle.pn.specs.declared.Running.{Running}
-use Rattle.pn.specs.declared.Cause.TheVariants.{Limit}
 
 pub record Ticked (x : Prover) (left : ℕ) (s : Settings) (r : Running) : Type 0 where
   pub prover_is : r.prover ≡ x

@@ -34,25 +34,24 @@ pub struct Settings {
 }
 
 // Why a search stops: its root is solved, its budget is spent, its pool is short, or it is over the limit.
+// A number's type and no enum: `finish`, `resume::second` and whatever writes a result answer for every number, as they did when it stood there bare.
 #[derive(Clone, Copy, PartialEq, Eq)]
-pub enum Cause {
-    Solved,
-    Budget,
-    Pool,
-    Limit,
-}
+pub struct Cause(pub u8);
 
 impl Cause {
+    pub const SOLVED: Cause = Cause(0);
+
+    pub const BUDGET: Cause = Cause(1);
+
+    pub const POOL: Cause = Cause(2);
+
+    pub const LIMIT: Cause = Cause(3);
+
     // Its number in a result.
     pub fn number(self) -> u8
         ensures { result ≡ cause_number self }
     {
-        match self {
-            Cause::Solved => 0,
-            Cause::Budget => 1,
-            Cause::Pool => 2,
-            Cause::Limit => 3,
-        }
+        self.0
     }
 }
 
@@ -128,7 +127,7 @@ fn tick(x: Prover, left: u64, s: Settings) -> Running
     Running {
         prover: x,
         tick: s.interval,
-        stop: over.then_some(Cause::Limit),
+        stop: over.then_some(Cause::LIMIT),
     }
 }
 
@@ -149,7 +148,7 @@ fn cause_of(proof: u32, disproof: u32, cause: Cause) -> Cause
     ensures { cause_number result ≡ cond (eqb proof 0 || eqb disproof 0) 0 (cause_number cause) }
 {
     match (proof, disproof) {
-        (0, _) | (_, 0) => Cause::Solved,
+        (0, _) | (_, 0) => Cause::SOLVED,
         _ => cause,
     }
 }
@@ -193,7 +192,7 @@ fn round(
     if room::is_short(words, positions, leaf, s.rule, attacker) {
         return Running {
             prover: leaf,
-            stop: Some(Cause::Pool),
+            stop: Some(Cause::POOL),
             ..x
         };
     }
@@ -220,13 +219,13 @@ fn step(
     let delta = node_pool::delta(words, root);
     if (Bounds { phi, delta }).solved() {
         return Running {
-            stop: Some(Cause::Solved),
+            stop: Some(Cause::SOLVED),
             ..x
         };
     }
     if x.prover.expanded == s.budget {
         return Running {
-            stop: Some(Cause::Budget),
+            stop: Some(Cause::BUDGET),
             ..x
         };
     }

@@ -3,12 +3,12 @@ use Rattle.std.specs.Prelude.{◌≡◌, refl, Some, IsSome, List, ℕ, ◌≤�
 use Rattle.std.proofs.Common.{subst}
 use Rattle.rules.specs.Rules.{Position}
 use Rattle.rules.specs.Record.{side_bit}
+use Rattle.pn.specs.Results.{Budget}
 use Rattle.pn.specs.Going.{Going, Ranges, with_budget, again, goes_again}
 use Rattle.pn.specs.Stepping.{Steppable}
 use Rattle.pn.specs.Searches.{Looping}
 use Rattle.pn.specs.declared.Settings.{Settings}
 use Rattle.pn.specs.declared.Running.{Running}
-use Rattle.pn.specs.declared.Cause.TheVariants.{Budget}
 use Rattle.resume.specs.declared.Kept.{Kept}
 
 -- the search of p has stopped in the words v

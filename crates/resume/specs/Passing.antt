@@ -8,11 +8,10 @@ use Rattle.plain.specs.Plain.{search_of}
 use Rattle.stay.specs.Margin.{stay_of}
 use Rattle.words.specs.Words.{capacity}
 use Rattle.passes.specs.Passes.{OneGame, first, grant_with, unspent_after}
-use Rattle.pn.specs.Results.{machine_settings, result_of}
+use Rattle.pn.specs.Results.{machine_settings, Budget, result_of}
 use Rattle.pn.specs.Going.{Countable, Ranges, stopped_by, with_budget, cause_spent, spent_cause, settings_long}
 use Rattle.pn.specs.declared.Settings.{Settings}
 use Rattle.pn.specs.declared.SearchResult.{SearchResult}
-use Rattle.pn.specs.declared.Cause.TheVariants.{Budget}
 use Rattle.resume.specs.Lone.{lone, lone_spent}
 use Rattle.resume.specs.Keeping.{Stopped, Resumable}
 use Rattle.resume.specs.declared.Kept.{Kept}

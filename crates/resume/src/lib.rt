@@ -45,7 +45,7 @@ pub fn nothing() -> Kept {
         running: Running {
             prover,
             tick: 0,
-            stop: Some(Cause::Solved),
+            stop: Some(Cause::SOLVED),
         },
         path: [0; PLIES],
         positions: [0; POSITIONS],
@@ -95,7 +95,7 @@ pub fn second(words: &mut [u32], k: Kept, s: Settings, unspent: u64) -> Turn
     requires { Passable words.old k s unspent }
     ensures { (p : Position) → Stopped p s words.old k → Passes p s words.old unspent result }
 {
-    if k.running.stop != Some(Cause::Budget) {
+    if k.running.stop != Some(Cause::BUDGET) {
         return Turn {
             result: pn::finish(words, &k.path, s, k.running),
             unspent,

@@ -1,10 +1,11 @@
 -- `resume::second` meets its contract, by whether its budget had stopped the game. Assumes nothing.
-use Rattle.std.specs.Prelude.{◌≡◌, refl, ◌+◌, Bool, Option, None, Some, not, true, false}
+use Rattle.std.specs.Prelude.{◌≡◌, ◌+◌, Bool, Option, None, Some, not, true, false}
 use Rattle.std.specs.Option.{option_eq}
-use Rattle.std.proofs.Common.{sym, ◌∙◌, true≢false}
-use Rattle.pn.specs.Going.{with_budget}
+use Rattle.std.proofs.Common.{ap, sym, ◌∙◌, true≢false}
+use Rattle.std.proofs.lemmas.Bool.{eqb-true, not-false}
+use Rattle.pn.specs.Results.{Budget}
+use Rattle.pn.specs.Going.{with_budget, one_budget}
 use Rattle.pn.specs.declared.Cause.{Cause}
-use Rattle.pn.specs.declared.Cause.TheVariants.{Solved, Budget, Pool, Limit}
 use Rattle.pn.specs.contracts.CausePartialEq.TheImpl.{eq-value}
 use Rattle.resume.specs.Passing.{passes_kept, passes_on, to_go_on, result_long, result_most}
 use Rattle.resume.proofs.second.Goals as goal
@@ -12,10 +13,7 @@ use Rattle.resume.proofs.second.Goals as goal
 -- The test, read: the budget stopped it, or not
 spent : (o : Option Cause) (b : Bool) → b ≡ not (option_eq eq-value.it o (Some Budget)) → b ≡ false → o ≡ Some Budget
 spent None b e q = absurd (true≢false (sym e ∙ q))
-spent (Some Solved) b e q = absurd (true≢false (sym e ∙ q))
-spent (Some Budget) b e q = refl
-spent (Some Pool) b e q = absurd (true≢false (sym e ∙ q))
-spent (Some Limit) b e q = absurd (true≢false (sym e ∙ q))
+spent (Some c) b e q = ap (λ (d : Cause). Some d) (one_budget c (eqb-true c.0 1 (not-false _ (sym e ∙ q))))
 
 unspent : (o : Option Cause) (b : Bool) → b ≡ not (option_eq eq-value.it o (Some Budget)) → b ≡ true → o ≡ Some Budget → ⊥
 unspent o b e q h = true≢false (sym q ∙ (rw h at e))
