@@ -93,3 +93,11 @@ pub record SecondPassed (shares : List ℕ) (n size : ℕ) (c : Common) (kept : 
       → (k : ℕ) → k < n → (d : SearchResult) → result_of (get_or rs k d) ≡ result_at (game_of pos shares size c) c.allowance n k
   pub nothing : (k : ℕ) → n ≤ k → k < 8 → (d : SearchResult) → result_of (get_or rs k d) ≡ no_result
   pub past : drop (n * size) v ≡ drop (n * size) w
+
+-- both passes, with the words between them
+pub record BothPassed (bytes shares : List ℕ) (n size : ℕ) (c : Common) (w v : List ℕ) (rs : List SearchResult) : Type 0 where
+  pub first : FirstPass
+  pub between : List ℕ
+  pub long : length between ≡ length w
+  pub first_passed : FirstPassed bytes shares n size c w between first
+  pub second_passed : SecondPassed shares n size c first.kept first.unspent between v rs

@@ -11,7 +11,7 @@ ghost use Rattle.games_checks.specs.Earliest.{game_code};
 ghost use Rattle.games.specs.Games.{no_result, games_call, PoolAfterGames};
 ghost use Rattle.games.specs.GamesStatement.{GamesStatement};
 ghost use Rattle.games.specs.Answers.{outcome_of};
-ghost use Rattle.games.specs.Playing.{settings_of, Playable, FirstPassed, Halfway, SecondPassed};
+ghost use Rattle.games.specs.Playing.{settings_of, Playable, FirstPassed, Halfway, SecondPassed, BothPassed};
 
 use games_checks::{Common, GameRefusal, MOST_GAMES};
 use pn::{Cause, SearchResult, Settings};
@@ -42,8 +42,8 @@ pub struct FirstPass {
     pub unspent: u64,
 }
 
-// The first pass of n games, with parts of so many words: each runs up to its share. Both passes take shares, n, size and c: a struct for two calls would be no
-// plainer.
+// The first pass of n games, with parts of so many words: each runs up to its share, and is kept in pass, where the whole allowance is unspent at first. Both passes
+// take shares, n, size and c: a struct for two calls would be no plainer.
 fn first_pass(
     bytes: &[u8],
     words: &mut [u32],
@@ -51,22 +51,20 @@ fn first_pass(
     n: usize,
     size: usize,
     c: Common,
-) -> FirstPass
-    requires { Playable bytes.now words.old shares.now n size c }
-    ensures { FirstPassed bytes.now shares.now n size c words.old words.new result }
+    pass: &mut FirstPass,
+)
+    requires { Playable bytes.now words.old shares.now n size c × (length pass.old.kept ≡ 8) × (pass.old.unspent ≡ c.allowance) }
+    ensures { FirstPassed bytes.now shares.now n size c words.old words.new pass.new }
 {
-    let mut kept = [resume::nothing(); MOST_GAMES];
-    let mut unspent = c.allowance;
     for i in 0..n {
         let b = i * RECORD_LENGTH;
         let root = record::load(&bytes[b..b + RECORD_LENGTH]).unwrap();
         let a = i * size;
         let s = settings_of(c, shares[i]);
         let k = resume::first(&mut words[a..a + size], root, s);
-        unspent -= k.running.prover.expanded;
-        kept[i] = k;
+        pass.unspent -= k.running.prover.expanded;
+        pass.kept[i] = k;
     }
-    FirstPass { kept, unspent }
 }
 
 // The result that stands where there is no game.
@@ -82,7 +80,7 @@ fn no_result() -> SearchResult
         proved: 0,
         disproved: 0,
         expanded: 0,
-        cause: Cause::Solved,
+        cause: Cause::SOLVED,
     }
 }
 
@@ -93,11 +91,11 @@ fn second_pass(
     n: usize,
     size: usize,
     c: Common,
-    kept: [Kept; MOST_GAMES],
+    kept: &[Kept; MOST_GAMES],
     left: u64,
 ) -> [SearchResult; MOST_GAMES]
-    requires { (pos : ℕ → Position) × Halfway pos shares.now n size c words.old kept left }
-    ensures { SecondPassed shares.now n size c kept left words.old words.new result }
+    requires { (pos : ℕ → Position) × Halfway pos shares.now n size c words.old kept.now left }
+    ensures { SecondPassed shares.now n size c kept.now left words.old words.new result }
 {
     let mut results = [no_result(); MOST_GAMES];
     let mut unspent = left;
@@ -109,6 +107,26 @@ fn second_pass(
         unspent = turn.unspent;
     }
     results
+}
+
+// Both passes. The kept searches stand in one array, lent to each: some 35 KB, and no copy. A call that is refused makes none.
+fn both_passes(
+    bytes: &[u8],
+    words: &mut [u32],
+    shares: &[u64; MOST_GAMES],
+    n: usize,
+    size: usize,
+    c: Common,
+) -> [SearchResult; MOST_GAMES]
+    requires { Playable bytes.now words.old shares.now n size c }
+    ensures { BothPassed bytes.now shares.now n size c words.old words.new result }
+{
+    let mut first = FirstPass {
+        kept: [resume::nothing(); MOST_GAMES],
+        unspent: c.allowance,
+    };
+    first_pass(bytes, words, shares, n, size, c, &mut first);
+    second_pass(words, shares, n, size, c, &first.kept, first.unspent)
 }
 
 // How many games there are, and their results, with zeros past them: the C interface has an array of eight and a count.
@@ -135,7 +153,6 @@ pub fn judge_games(
     let nodes = node_pool::capacity(words);
     games_checks::check_settings(nodes, shares, n, c)?;
     let size = nodes / n * NODE;
-    let first = first_pass(bytes, words, shares, n, size, c);
-    let results = second_pass(words, shares, n, size, c, first.kept, first.unspent);
+    let results = both_passes(bytes, words, shares, n, size, c);
     Ok(JudgedGames { count: n, results })
 }

@@ -14,7 +14,7 @@ stopped-with : {p : Position} {s t : Settings} {v : List ℕ} {k : Kept} → s �
 stopped-with {p} {s} {t} {v} {k} e h = subst (λ (r : Settings). Stopped p r v k) e h
 
 pub loop-i-init : goal.loop-i-init
-loop-i-init c = first_start _ _ _ _ _ _ _ refl c.requires
+loop-i-init c = rw c.requires.2 (first_start _ _ _ _ _ _ _ c.requires.1 c.requires.0)
 
 pub unwrap-root-requires : goal.unwrap-root-requires
 unwrap-root-requires c = rw (record_read c.loop-i.invariant.from _ _ c.loop-i-test.true c.load.ensures.code).1 refl
@@ -23,8 +23,8 @@ pub first-k-requires : goal.first-k-requires
 first-k-requires c =
     rw c.settings_of-s.ensures (to_first c.loop-i.invariant c.loop-i-test.true _ (record_holds c.loop-i.invariant.from _ _ (IfOk-at_ok _ c.unwrap-root.ensures c.load.ensures.position)))
 
-pub overflow_sub-unspent : goal.overflow_sub-unspent
-overflow_sub-unspent c =
+pub overflow_sub-pass : goal.overflow_sub-pass
+overflow_sub-pass c =
     unspent_enough c.loop-i.invariant c.loop-i-test.true _ _ c.first-k.auto.words
     (stopped-with c.settings_of-s.ensures (c.first-k.ensures _ (record_holds c.loop-i.invariant.from _ _ (IfOk-at_ok _ c.unwrap-root.ensures c.load.ensures.position)) (first_accepted c.loop-i.invariant c.loop-i-test.true)))
 

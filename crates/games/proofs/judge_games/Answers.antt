@@ -49,20 +49,17 @@ nonzero_div-size c = (counted c.args.bytes.now (sym c.in_ok-check_number.ensures
 pub overflow_mul-size : goal.overflow_mul-size
 overflow_mul-size c = omega (arith, div-le_self c.capacity-nodes.result (games c.args.bytes.now), c.capacity-nodes.ensures)
 
-pub first_pass-first-requires : goal.first_pass-first-requires
-first_pass-first-requires c =
+pub both_passes-results-requires : goal.both_passes-results-requires
+both_passes-results-requires c =
     to_play c.args.bytes.now c.args.words.now c.args.shares.now c.args.c (sym c.in_ok-check_number.ensures) (sym c.in_ok-earliest.ensures.code_is) _ c.capacity-nodes.ensures
     (sym c.in_ok-check_settings.ensures)
-
-pub second_pass-results-requires : goal.second_pass-results-requires
-second_pass-results-requires c = (_, c.first_pass-first.ensures.half)
 
 pub returns : goal.returns
 returns c =
     let passes = passes_answer c.args.bytes.now c.args.words.now c.args.shares.now c.args.c (sym c.in_ok-check_number.ensures) (sym c.in_ok-earliest.ensures.code_is) _
-    c.capacity-nodes.ensures (sym c.in_ok-check_settings.ensures) _ _ _ _ c.first_pass-first.ensures c.second_pass-results.ensures c.first_pass-first.auto.words
-    c.second_pass-results.auto.words in
+    c.capacity-nodes.ensures (sym c.in_ok-check_settings.ensures) _ _ _ _ c.both_passes-results.ensures.first_passed c.both_passes-results.ensures.second_passed
+    c.both_passes-results.ensures.long (c.both_passes-results.auto.words ∙ sym c.both_passes-results.ensures.long) in
     let q =
-    keeps c.args.bytes.now c.args.shares.now (common_of c.args.c) c.args.words.now c.second_pass-results.new.words
-    (Ok (record { count = games c.args.bytes.now; results = c.second_pass-results.result })) passes.0 passes.1 in
+    keeps c.args.bytes.now c.args.shares.now (common_of c.args.c) c.args.words.now c.both_passes-results.new.words
+    (Ok (record { count = games c.args.bytes.now; results = c.both_passes-results.result })) passes.0 passes.1 in
     record { result_value = q.0; pool = q.1.0; promised = q.1.1 }
