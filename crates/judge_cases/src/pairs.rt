@@ -1,7 +1,7 @@
 // Pairs of searches of one record under one rule, run by two_searches, whose contract is the third condition. For each pair the line of either search, and
 // whether they are alike. The answers are those of the original: harness/oracle/cases.txt has each of these searches that is answered.
 
-ghost use Rattle.std.specs.Prelude.{◌≤◌};
+ghost use Rattle.std.specs.Prelude.{◌≡◌, ◌≤◌};
 
 use searches::SearchLimits;
 use stay::Stay;
@@ -22,6 +22,7 @@ struct Search {
 
 fn given(nodes: usize, limit: u64, budget: u64, interval: u64) -> Search
     requires { nodes ≤ 3276 }
+    ensures { result.nodes ≡ nodes }
 {
     let limits = SearchLimits {
         limit,
@@ -44,8 +45,8 @@ fn run_pair(rt: &impl Print, record: &[u8], rule: u64, a: Search, b: Search) -> 
         &mut ones[..b.nodes * 5],
         b.limits,
     );
-    let first = printed::outcome_line(two.first);
-    let second = printed::outcome_line(two.second);
+    let first = printed::outcome_line(printed::numbered(two.first));
+    let second = printed::outcome_line(printed::numbered(two.second));
     rt.write_all(first.text())?;
     rt.write_all(second.text())?;
     if first.text() == second.text() {

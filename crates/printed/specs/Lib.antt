@@ -1,4 +1,5 @@
 pub mod Printed
+pub mod Padding
 pub mod Decimals
 pub mod Answers
 pub mod PrintedCases

@@ -1,6 +1,9 @@
 -- The printed line: the bytes that the program judge writes, as a function of those that it reads. Bytes are ASCII. Rests on search's answer.
 use Rattle.std.specs.Prelude.{true, false, cond, List, [], ◌∷◌, ◌++◌, ℕ, zero, suc, ◌+◌, ◌*◌, ◌/◌, ◌%◌, eqb, ltb, length, take, get_or}
+use Rattle.std.specs.Prelude as code
 use Rattle.machine.specs.Machine.{Result, Verdict, True, False, Unknown}
+use Rattle.pn.specs.Results.{result_of}
+use Rattle.pn.specs.declared.SearchResult.{SearchResult}
 use Rattle.stay.specs.declared.Stay.TheVariants.{Off}
 use Rattle.searches.specs.Searches.{Limits, limits, Searched, Answered, Refused, search_call}
 
@@ -49,6 +52,11 @@ refused_line n = refused_word ++ field n ++ newline
 unfoldable pub answer_line : Searched → List ℕ
 answer_line (Answered r) = fields_line r
 answer_line (Refused n) = refused_line n
+
+-- A search's answer in the code's fields, with a refusal's number
+abbrev pub numbered : code.Result SearchResult ℕ → Searched
+numbered (code.Ok r) = Answered (result_of r)
+numbered (code.Err n) = Refused n
 
 -- judge's pool in words, five a node; its limit, budget and interval; it does not stay on a line.
 abbrev pub judge_words : ℕ

@@ -2,11 +2,10 @@
 
 #![tactic(auto)]
 
-ghost use Rattle.std.specs.Prelude.{◌≡◌, ◌++◌, ◌+◌, ◌*◌, ◌≤◌, ◌<◌, length};
-ghost use Rattle.refusals.specs.Numbers.{number};
+ghost use Rattle.std.specs.Prelude.{◌≡◌, ◌++◌, ◌+◌, ◌-◌, ◌*◌, ◌≤◌, ◌<◌, length, replicate};
 ghost use Rattle.prove.specs.Numbers.{verdict};
 ghost use Rattle.searches.specs.Answers.{searched};
-ghost use Rattle.printed.specs.Printed.{decimal, fields, newline, verdict_word, refused_line, answer_line, judge_line};
+ghost use Rattle.printed.specs.Printed.{decimal, fields, newline, verdict_word, refused_line, numbered, answer_line, judge_line};
 
 use pn::SearchResult;
 use prove::Evaluation;
@@ -31,28 +30,48 @@ const INPUT_LENGTH: usize = RECORD_LENGTH + 1;
 
 // A line's text at the front of an array, zeros after it: there is no heap, and contracts see the text alone. The longest has seven letters, eight times a space
 // with twenty digits, and a newline.
-#[derive(Drop)]
+#[derive(Clone, Copy)]
 pub struct Line {
     bytes: [u8; 176],
     length: usize,
 }
 
 impl Model for Line {
-    ghost use Rattle.std.specs.Prelude.{◌≡◌, ◌-◌, ◌≤◌, List, ℕ, take, drop, replicate};
+    ghost use Rattle.std.specs.Prelude.{List, ℕ, take};
 
     ghost Value = { List ℕ };
 
+    ghost use Rattle.printed.specs.Padding.{Padded, padded, padded_back};
+
     ghost view = { λ l. take l.length l.bytes };
 
-    ghost invariant = { λ l. (l.length ≤ 176) × (drop l.length l.bytes ≡ replicate (176 - l.length) 0) };
+    ghost invariant = { Padded };
+
+    ghost inverse = { padded };
+
+    ghost inverse_ok = { padded_back };
 }
 
 impl Line {
-    // Its bytes.
+    // Its text.
     pub fn text(&self) -> &[u8]
         ensures { result.now ≡ self.now }
     {
         &self.bytes[..self.length]
+    }
+
+    // The whole array: the text, and zeros after it.
+    pub fn bytes(&self) -> &[u8; 176]
+        ensures { result.now ≡ self.now ++ replicate (176 - length self.now) 0 }
+    {
+        &self.bytes
+    }
+
+    // How many bytes the text has.
+    pub fn length(&self) -> usize
+        ensures { result ≡ length self.now }
+    {
+        self.text().len()
     }
 
     fn put_bytes(&mut self, bytes: &[u8])
@@ -103,7 +122,8 @@ fn word(v: Evaluation) -> &'static [u8]
 // A word, numbers, and a newline.
 fn line_of(word: &[u8], numbers: &[u64]) -> Line
     requires { length word.now + 21 * length numbers.now < 176 }
-    ensures { result ≡ word.now ++ fields numbers.now ++ newline }
+    ensures text { result ≡ word.now ++ fields numbers.now ++ newline }
+    ensures few { length result ≤ 176 }
 {
     let mut line = Line {
         bytes: [0; 176],
@@ -115,15 +135,17 @@ fn line_of(word: &[u8], numbers: &[u64]) -> Line
     line
 }
 
-fn refusal_line(refusal: Refusal) -> Line
-    ensures { result ≡ refused_line (number refusal) }
+fn refusal_line(number: u8) -> Line
+    ensures text { result ≡ refused_line number }
+    ensures few { length result ≤ 176 }
 {
-    line_of(b"refused", &[refusal.number() as u64])
+    line_of(b"refused", &[number as u64])
 }
 
-// The line of a search's answer: its fields, or the refusal.
-pub fn outcome_line(outcome: Result<SearchResult, Refusal>) -> Line
-    ensures { result ≡ answer_line (searched outcome) }
+// The line of a search's answer: its fields, or the refusal's number. A number, since it has the line of any.
+pub fn outcome_line(outcome: Result<SearchResult, u8>) -> Line
+    ensures text { result ≡ answer_line (numbered outcome) }
+    ensures few { length result ≤ 176 }
 {
     match outcome {
         Ok(r) => {
@@ -139,19 +161,31 @@ pub fn outcome_line(outcome: Result<SearchResult, Refusal>) -> Line
             ];
             line_of(word(r.verdict), &numbers)
         }
-        Err(refusal) => refusal_line(refusal),
+        Err(number) => refusal_line(number),
+    }
+}
+
+// A search's answer with its refusal's number.
+pub fn numbered(answer: Result<SearchResult, Refusal>) -> Result<SearchResult, u8>
+    ensures { numbered result ≡ searched answer }
+{
+    match answer {
+        Ok(result) => Ok(result),
+        Err(refusal) => Err(refusal.number()),
     }
 }
 
 // The line that judge writes for an input: 21 bytes of a record and a rule are searched with judge's pool and limits.
 #[tactic(auto, using(crate::specs::Answers::wrong_length))]
 pub fn judge_line(input: &[u8]) -> Line
-    ensures { result ≡ judge_line input.now }
+    ensures text { result ≡ judge_line input.now }
+    ensures few { length result ≤ 176 }
 {
     if input.len() != INPUT_LENGTH {
-        return refusal_line(Refusal::Length);
+        return refusal_line(Refusal::Length.number());
     }
     let mut pool = [0; WORDS];
     let rule = input[RECORD_LENGTH] as u64;
-    outcome_line(searches::search(&input[..RECORD_LENGTH], &mut pool, rule, LIMITS))
+    let answer = searches::search(&input[..RECORD_LENGTH], &mut pool, rule, LIMITS);
+    outcome_line(numbered(answer))
 }

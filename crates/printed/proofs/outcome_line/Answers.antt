@@ -2,10 +2,10 @@
 use Rattle.printed.specs.Printed.{answer_line, fields_line}
 use Rattle.printed.proofs.outcome_line.Goals as goal
 
-pub returns-in-Ok : goal.returns-in-Ok
+pub returns-in-Ok-clause-text : goal.returns-in-Ok-clause-text
 unfolding answer_line fields_line
-returns-in-Ok c = rw (c.in-Ok.is, c.line_of.ensures, c.word.ensures.word, c.number.ensures)
+returns-in-Ok-clause-text c = rw (c.in-Ok.is, c.line_of.ensures.text, c.word.ensures.word, c.number.ensures)
 
-pub returns-in-Err : goal.returns-in-Err
+pub returns-in-Err-clause-text : goal.returns-in-Err-clause-text
 unfolding answer_line
-returns-in-Err c = rw c.in-Err.is c.refusal_line.ensures
+returns-in-Err-clause-text c = rw c.in-Err.is c.refusal_line.ensures.text
