@@ -1,5 +1,5 @@
 // What the list says of a call, and whether the library says the same.
-ghost use Rattle.std.specs.Prelude.{◌≡◌, [], length};
+ghost use Rattle.std.specs.Prelude.{◌≡◌, true, Ok, Err, [], length, IfErr};
 ghost use Rattle.vectors.specs.Words.{Counted};
 ghost use Rattle.vectors.specs.Compared.{Compared};
 
@@ -96,6 +96,15 @@ pub fn settle<const N: usize>(
     ensures { Compared stored.entry given.entry [] [] result }
 {
     compare(stored, given, &[], &[])
+}
+
+// An outcome, if the rest agrees too.
+pub fn both(outcome: Outcome, rest: bool) -> Outcome
+    ensures agreed { result ≡ Ok true → (outcome ≡ Ok true) × (rest ≡ true) }
+    ensures alike { outcome ≡ Ok true → rest ≡ true → result ≡ Ok true }
+    ensures unread { IfErr outcome (λ e. result ≡ Err e) }
+{
+    Ok(outcome? && rest)
 }
 
 // Puts the bytes that the next word spells, as many as asked, at the front of want.

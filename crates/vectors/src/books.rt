@@ -1,8 +1,9 @@
 // The calls on the book. One book is kept from line to line. A line whose call can't be read leaves it as it is.
-ghost use Rattle.std.specs.Prelude.{◌≡◌, ◌≤◌, length};
+ghost use Rattle.std.specs.Prelude.{◌≡◌, ◌≤◌, ◌*◌, true, length, IfOk, IsOk};
 
 use crate::answers::{Answer, Outcome};
 use crate::line::{Line, Unreadable};
+use crate::search_lines::Settings;
 use crate::{answers, fields, publishing, search_lines};
 use ultimattt::book_exports::AddAnswer;
 
@@ -56,14 +57,22 @@ fn expect_ok(line: &mut Line<'_>) -> Result<(), Unreadable> {
     line.end()
 }
 
+// How many bytes a book of so many entries has, 22 for each. One with more entries than are lent can't be read.
+fn book_length(entries: u64) -> Result<usize, Unreadable>
+    ensures few { IfOk result (λ bytes. (entries ≤ 50) × (bytes ≡ entries * 22)) }
+    ensures all { entries ≤ 50 → IsOk result }
+{
+    if MOST_ENTRIES < entries {
+        return Err(Unreadable);
+    }
+    Ok(entries as usize * 22)
+}
+
 // `book new ENTRIES => ok`
 fn new_book(mut line: Line<'_>, book: &mut Book) -> Outcome {
     let entries = line.number()?;
     expect_ok(&mut line)?;
-    if MOST_ENTRIES < entries {
-        return Err(Unreadable);
-    }
-    *book = Book::empty(entries as usize * 22);
+    *book = Book::empty(book_length(entries)?);
     Ok(true)
 }
 
@@ -87,6 +96,14 @@ fn set_book(mut line: Line<'_>, book: &mut Book) -> Outcome {
     Ok(true)
 }
 
+// Whether two books are the same: every byte of their arrays, their lengths and their counts.
+fn same(a: &Book, b: &Book) -> bool
+    ensures same { result ≡ true → (a.now.bytes ≡ b.now.bytes) × (a.now.length ≡ b.now.length) × (a.now.count ≡ b.now.count) }
+    ensures alike { a.now.bytes ≡ b.now.bytes → a.now.length ≡ b.now.length → a.now.count ≡ b.now.count → result ≡ true }
+{
+    a == b
+}
+
 // `book dump => COUNT BYTES`
 fn dump(mut line: Line<'_>, book: &Book) -> Outcome {
     line.expect(b"=>")?;
@@ -94,7 +111,7 @@ fn dump(mut line: Line<'_>, book: &Book) -> Outcome {
     let mut want = read_bytes(&mut line)?;
     want.count = count;
     line.end()?;
-    Ok(want == *book)
+    Ok(same(&want, book))
 }
 
 // `book lookup WHO RECORD RULE => VALUE`, from the arrow on.
@@ -129,9 +146,16 @@ fn closed_after_add(got: AddAnswer, before: u64, words: usize) -> usize {
     }
 }
 
-// `book add WHO RECORD RULE POOL-NODES LIMIT BUDGET INTERVAL [MARGIN] => VERDICT COUNT`, from the pool on.
-fn add(mut line: Line<'_>, asked: Asked<'_>, book: &mut Book, want: &mut Book) -> Outcome {
-    let x = search_lines::read_settings(&mut line)?;
+// The call of add, and its answer. The pool comes first, as in `search_lines::run_search`.
+fn run_add(
+    line: Line<'_>,
+    asked: Asked<'_>,
+    x: Settings,
+    book: &mut Book,
+    want: &mut Book,
+) -> Outcome
+    requires { x.words ≤ 20484 }
+{
     let mut pool = fields::fresh_pool();
     let before = book.count;
     // Tried, and no proof came: to lend `book.bytes`, a field beside a ghost field, to a call with a contract. So it is copied out and back.
@@ -154,7 +178,16 @@ fn add(mut line: Line<'_>, asked: Asked<'_>, book: &mut Book, want: &mut Book) -
     want.put_entry(asked, got);
     want.count = got.count;
     let closed = closed_after_add(got, before, x.words);
-    Ok(settle_add(line, before, got)? && fields::untouched(&pool, closed))
+    answers::both(
+        settle_add(line, before, got),
+        fields::untouched(&pool, closed),
+    )
+}
+
+// `book add WHO RECORD RULE POOL-NODES LIMIT BUDGET INTERVAL [MARGIN] => VERDICT COUNT`, from the pool on.
+fn add(mut line: Line<'_>, asked: Asked<'_>, book: &mut Book, want: &mut Book) -> Outcome {
+    let x = search_lines::read_settings(&mut line)?;
+    run_add(line, asked, x, book, want)
 }
 
 // Runs the call of that name, an arbiter's or a trainer's, on the record and the rule that follow. `want` becomes the book as it should be after the call.
@@ -187,7 +220,8 @@ pub fn run(mut line: Line<'_>, book: &mut Book) -> Outcome {
         b"dump" => dump(line, book),
         verb => {
             let mut want = *book;
-            Ok(call(verb, line, book, &mut want)? && *book == want)
+            let outcome = call(verb, line, book, &mut want);
+            answers::both(outcome, same(&want, book))
         }
     }
 }

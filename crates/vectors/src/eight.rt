@@ -1,9 +1,10 @@
 // The call on up to eight games: it reads the rest of its line, after the records, and runs the call.
-ghost use Rattle.std.specs.Prelude.{◌<◌};
+ghost use Rattle.std.specs.Prelude.{◌<◌, ◌≤◌};
 
 use crate::answers::{Answer, Outcome};
 use crate::fields::Fields;
 use crate::line::{Line, Unreadable};
+use crate::search_lines::Settings;
 use crate::{answers, fields, line, margin, search_lines};
 use ultimattt::games_exports::GamesAnswer;
 
@@ -72,12 +73,17 @@ fn closed_after(count: u64, words: usize) -> usize {
     ((nodes - nodes % count) * 5) as usize
 }
 
-// `eight RECORDS RULE POOL-NODES LIMIT ALLOWANCE INTERVAL S1,..,S8 [MARGIN] => RESULTS`
-pub fn judge(mut line: Line<'_>, records: &[u8]) -> Outcome {
-    let rule = line.number()?;
-    let x = search_lines::read_limits(&mut line)?;
-    let shares = read_shares(&mut line)?;
-    let margin = margin::read(&mut line)?;
+// The call of games, and its answer. The pool comes first, as in `search_lines::run_search`.
+fn run_games(
+    line: Line<'_>,
+    records: &[u8],
+    rule: u64,
+    x: Settings,
+    shares: [u64; 8],
+    margin: Option<f64>,
+) -> Outcome
+    requires { x.words ≤ 20484 }
+{
     let mut pool = fields::fresh_pool();
     let got = ultimattt::games_exports::uttt_judge_games(
         records,
@@ -91,5 +97,14 @@ pub fn judge(mut line: Line<'_>, records: &[u8]) -> Outcome {
         margin.unwrap_or(0.0),
     );
     let closed = closed_after(got.count, x.words);
-    Ok(settle_games(line, &got)? && fields::untouched(&pool, closed))
+    answers::both(settle_games(line, &got), fields::untouched(&pool, closed))
+}
+
+// `eight RECORDS RULE POOL-NODES LIMIT ALLOWANCE INTERVAL S1,..,S8 [MARGIN] => RESULTS`
+pub fn judge(mut line: Line<'_>, records: &[u8]) -> Outcome {
+    let rule = line.number()?;
+    let x = search_lines::read_limits(&mut line)?;
+    let shares = read_shares(&mut line)?;
+    let margin = margin::read(&mut line)?;
+    run_games(line, records, rule, x, shares, margin)
 }

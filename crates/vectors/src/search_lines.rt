@@ -68,10 +68,11 @@ fn settle_search(line: Line<'_>, got: SearchAnswer) -> Outcome {
     answers::settle(answers::stored(line, [0; 9], fields::read), given)
 }
 
-// `search RECORD RULE POOL-NODES LIMIT BUDGET INTERVAL [MARGIN] => FIELDS`
-pub fn search(mut line: Line<'_>, record: &[u8]) -> Outcome {
-    let rule = line.number()?;
-    let x = read_settings(&mut line)?;
+// The call of search, and its answer.
+// The pool comes first: where a function can end before it, the place of the pool is cleared as well, and a short line takes twice as long or more.
+fn run_search(line: Line<'_>, record: &[u8], rule: u64, x: Settings) -> Outcome
+    requires { x.words ≤ 20484 }
+{
     let mut pool = fields::fresh_pool();
     let got = ultimattt::exports::uttt_search(
         record,
@@ -84,7 +85,14 @@ pub fn search(mut line: Line<'_>, record: &[u8]) -> Outcome {
         x.margin.unwrap_or(0.0),
     );
     let closed = closed_from(got.code, x.words);
-    Ok(settle_search(line, got)? && fields::untouched(&pool, closed))
+    answers::both(settle_search(line, got), fields::untouched(&pool, closed))
+}
+
+// `search RECORD RULE POOL-NODES LIMIT BUDGET INTERVAL [MARGIN] => FIELDS`
+pub fn search(mut line: Line<'_>, record: &[u8]) -> Outcome {
+    let rule = line.number()?;
+    let x = read_settings(&mut line)?;
+    run_search(line, record, rule, x)
 }
 
 // A full verdict and the fields of two results, in a line's order.
@@ -128,9 +136,10 @@ fn settle_full(line: Line<'_>, got: FullAnswer) -> Outcome {
     answers::settle(answers::stored(line, [0; 19], read_full), given)
 }
 
-// `full RECORD POOL-NODES LIMIT BUDGET INTERVAL [MARGIN] => VERDICT | FIELDS | FIELDS`
-pub fn full(mut line: Line<'_>, record: &[u8]) -> Outcome {
-    let x = read_settings(&mut line)?;
+// The call of full verdict, and its answer. The pool comes first, as in `run_search`.
+fn run_full(line: Line<'_>, record: &[u8], x: Settings) -> Outcome
+    requires { x.words ≤ 20484 }
+{
     let mut pool = fields::fresh_pool();
     let got = ultimattt::exports::uttt_full_verdict(
         record,
@@ -142,5 +151,11 @@ pub fn full(mut line: Line<'_>, record: &[u8]) -> Outcome {
         x.margin.unwrap_or(0.0),
     );
     let closed = closed_from(got.code, x.words);
-    Ok(settle_full(line, got)? && fields::untouched(&pool, closed))
+    answers::both(settle_full(line, got), fields::untouched(&pool, closed))
+}
+
+// `full RECORD POOL-NODES LIMIT BUDGET INTERVAL [MARGIN] => VERDICT | FIELDS | FIELDS`
+pub fn full(mut line: Line<'_>, record: &[u8]) -> Outcome {
+    let x = read_settings(&mut line)?;
+    run_full(line, record, x)
 }

@@ -1,4 +1,6 @@
 // The call of simulated players: it reads the rest of its line, after the record, and runs the call.
+ghost use Rattle.std.specs.Prelude.{◌≤◌};
+
 use crate::answers::{Answer, Outcome};
 use crate::line::Line;
 use crate::{answers, fields, margin, search_lines};
@@ -29,12 +31,18 @@ fn closed_after(record: &[u8], code: u32, words: usize) -> usize {
     }
 }
 
-// `sim RECORD SEED GAMES POOL-NODES LIMIT INTERVAL X-BUDGET O-BUDGET [MARGIN] => X-WINS O-WINS DRAWS EXPANSIONS`
-pub fn simulate(mut line: Line<'_>, record: &[u8]) -> Outcome {
-    let [seed, games, nodes, limit, interval, x_budget, o_budget]: [u64; 7] = line.numbers()?;
-    let margin = margin::read(&mut line)?;
-    let words = search_lines::lent_words(nodes)?;
+// The call of simulate, and its answer: the line's seven numbers, so many words lent. The pool comes first, as in `search_lines::run_search`.
+fn run_players(
+    line: Line<'_>,
+    record: &[u8],
+    numbers: [u64; 7],
+    words: usize,
+    margin: Option<f64>,
+) -> Outcome
+    requires { words ≤ 20484 }
+{
     let mut pool = fields::fresh_pool();
+    let [seed, games, _, limit, interval, x_budget, o_budget] = numbers;
     let got = ultimattt::players_exports::uttt_simulate(
         record,
         &mut pool[..words],
@@ -48,5 +56,13 @@ pub fn simulate(mut line: Line<'_>, record: &[u8]) -> Outcome {
         margin.unwrap_or(0.0),
     );
     let closed = closed_after(record, got.code, words);
-    Ok(settle_report(line, got)? && fields::untouched(&pool, closed))
+    answers::both(settle_report(line, got), fields::untouched(&pool, closed))
+}
+
+// `sim RECORD SEED GAMES POOL-NODES LIMIT INTERVAL X-BUDGET O-BUDGET [MARGIN] => X-WINS O-WINS DRAWS EXPANSIONS`
+pub fn simulate(mut line: Line<'_>, record: &[u8]) -> Outcome {
+    let numbers: [u64; 7] = line.numbers()?;
+    let margin = margin::read(&mut line)?;
+    let words = search_lines::lent_words(numbers[2])?;
+    run_players(line, record, numbers, words, margin)
 }
