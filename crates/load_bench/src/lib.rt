@@ -124,7 +124,7 @@ fn refused_words(bytes: &[u8]) -> [u16; 23] {
     record::read_words(Cells::from(w), target, side)
 }
 
-// A load's answer: a record that one of checks 2 to 6 refuses has the words that were read of it.
+// A load's answer: a record that one of checks 2 to 6 refuses has the words that were read of it, or zeros where the last bit or a cell of code 3 refuses it.
 fn answer(bytes: &[u8], loaded: Result<Game, Refusal>) -> BenchLoaded
     ensures { (result.code ≡ refusal_code loaded) × IfOk loaded (λ g. result.words ≡ g.words) }
 {
