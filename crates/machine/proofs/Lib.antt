@@ -1,4 +1,5 @@
 pub mod Cases
+pub mod Causes
 pub mod Climb
 pub mod Descent
 pub mod NeedsNoMore

@@ -13,15 +13,16 @@ use Rattle.rules.proofs.Plays.{turn_passes, one_less, count_length}
 use Rattle.rules.proofs.Replays.{no_move, good_move, first_good}
 use Rattle.machine.specs.Game.{backward, sequences}
 use Rattle.machine.specs.Tree.{Node, Children, size}
-use Rattle.machine.specs.Machine.{Stay, choice, children, standard}
+use Rattle.machine.specs.Machine.{Stay, Settings, choice, children, standard}
 use Rattle.machine.specs.Value.{Distinct}
 use Rattle.machine.proofs.Value.{Lawful}
 use Rattle.machine.proofs.Place.{Sane}
 use Rattle.machine.proofs.Standard.{standard_sane}
+use Rattle.machine.proofs.Causes.{one_of_four}
 use Rattle.machine.specs.Needs.{AsksNoLess, asking_for_moves}
 use Rattle.machine.proofs.NeedsNoMore.{no_more_than_moves}
 use Rattle.machine.proofs.Sequences.{Legal, Enumerates, sequences_list, sequences_count}
-use Rattle.plain.specs.Plain.{game, game_of, policy_of, sequences_of}
+use Rattle.plain.specs.Plain.{game, game_of, policy_of, search_of, sequences_of}
 
 ascending_distinct : (l : List ℕ) → Ascending l → Distinct l
 ascending_distinct [] a = tt
@@ -66,6 +67,11 @@ module _ (rule : ℕ) (root : Player) (y : Stay) where
 -- At the root it is the root's side that is to move.
 pub root_mine : (rule : ℕ) (p : Position) → (game_of rule p).mine p ≡ true
 root_mine rule p = same_itself p.side
+
+-- A result's cause is one of the four.
+pub cause_most : (rule : ℕ) (S : Settings) (p : Position) → (search_of rule S p).cause ≤ 3
+unfolding search_of
+cause_most rule S p = one_of_four (game_of rule p) (policy_of rule p.side S.stay) S p
 
 -- An accepted position: at most 81 moves are left, and it has no legal move exactly if it is finished.
 module _ (p : Position) (a : Accepted p) where

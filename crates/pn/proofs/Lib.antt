@@ -1,2 +1,3 @@
--- The steps of a round, as proofs go through them.
+-- The four causes, and the steps of a round, as proofs go through them.
+pub mod Causes
 pub mod Rounds

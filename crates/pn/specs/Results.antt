@@ -1,5 +1,5 @@
 -- What the code's settings, causes and result are to the plain machine. Definitions alone; rests on machine, prove, stay and words.
-use Rattle.std.specs.Prelude.{List, ℕ}
+use Rattle.std.specs.Prelude.{IfSome, Option, List, ℕ, ◌≤◌}
 use Rattle.machine.specs.Machine as machine
 use Rattle.prove.specs.Numbers.{verdict}
 use Rattle.words.specs.Words.{capacity}
@@ -28,6 +28,10 @@ Pool = record { 0 = 2 }
 
 abbrev pub Limit : Cause
 Limit = record { 0 = 3 }
+
+-- it goes on, or has stopped for one of the four
+abbrev pub OneOfFour : Option Cause → Type 0
+OneOfFour o = IfSome o (λ c. cause_number c ≤ 3)
 
 -- the nine fields of a SearchResult as the machine has them
 abbrev pub result_of : SearchResult → machine.Result

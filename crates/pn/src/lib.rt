@@ -9,7 +9,7 @@ ghost use Rattle.game.specs.Words.{Holds};
 ghost use Rattle.machine.specs.Machine.{verdict_of};
 ghost use Rattle.plain.specs.Plain.{search_of};
 ghost use Rattle.prove.specs.Numbers.{verdict};
-ghost use Rattle.pn.specs.Results.{cause_number, machine_settings, result_of};
+ghost use Rattle.pn.specs.Results.{cause_number, OneOfFour, machine_settings, result_of};
 ghost use Rattle.pn.specs.Going.{Going};
 ghost use Rattle.pn.specs.Beginning.{Startable, Begun};
 ghost use Rattle.pn.specs.Ticked.{Ticked};
@@ -34,7 +34,8 @@ pub struct Settings {
 }
 
 // Why a search stops: its root is solved, its budget is spent, its pool is short, or it is over the limit.
-// A number's type and no enum: `finish`, `resume::second` and whatever writes a result answer for every number, as they did when it stood there bare.
+// A number's type and no enum: `finish`, `resume::second` and whatever writes a result answer for every number, as they did when it stood there bare. That a search
+// stops for one of the four is told by contract (`OneOfFour`).
 #[derive(Clone, Copy, PartialEq, Eq)]
 pub struct Cause(pub u8);
 
@@ -186,7 +187,8 @@ fn round(
     attacker: usize,
 ) -> Running
     requires { Unsolved words.old path.old positions.old x s attacker }
-    ensures { (u : Unsolved words.old path.old positions.old x s attacker) → Stepped u.from.start s x words.old words.new path.new positions.new result }
+    ensures stepped { (u : Unsolved words.old path.old positions.old x s attacker) → Stepped u.from.start s x words.old words.new path.new positions.new result }
+    ensures four { OneOfFour result.stop }
 {
     let leaf = descend::descend(words, path, positions, x.prover, s.stay);
     if room::is_short(words, positions, leaf, s.rule, attacker) {
@@ -212,7 +214,8 @@ fn step(
     attacker: usize,
 ) -> Running
     requires { Steppable words.old path.old positions.old x s attacker }
-    ensures { (g : Steppable words.old path.old positions.old x s attacker) → Stepped g.start s x words.old words.new path.new positions.new result }
+    ensures stepped { (g : Steppable words.old path.old positions.old x s attacker) → Stepped g.start s x words.old words.new path.new positions.new result }
+    ensures four { OneOfFour result.stop }
 {
     let root = NodeID(path[0]);
     let phi = node_pool::phi(words, root);
@@ -243,7 +246,8 @@ pub fn run(
     attacker: usize,
 ) -> Running
     requires { Steppable words.old path.old positions.old x s attacker }
-    ensures { Ran words.old path.old positions.old x s attacker words.new path.new positions.new result }
+    ensures ran { Ran words.old path.old positions.old x s attacker words.new path.new positions.new result }
+    ensures four { OneOfFour result.stop }
 {
     let mut todo = [0; PLIES];
     let mut line = *path;
@@ -263,7 +267,8 @@ pub fn start(
     s: Settings,
 ) -> Running
     requires { Searchable g.words words.old s }
-    ensures { Started g.words s words.old words.new path.new positions.new result }
+    ensures started { Started g.words s words.old words.new path.new positions.new result }
+    ensures four { OneOfFour result.stop }
 {
     let attacker = game::side_to_move(&g.words, 0);
     let x = Running {

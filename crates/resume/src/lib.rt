@@ -5,6 +5,7 @@
 ghost use Rattle.rules.specs.Rules.{Position};
 ghost use Rattle.rules.specs.Record.{Accepted};
 ghost use Rattle.game.specs.Words.{Holds};
+ghost use Rattle.pn.specs.Results.{OneOfFour};
 ghost use Rattle.pn.specs.Searches.{Searchable};
 ghost use Rattle.resume.specs.Keeping.{Stopped, Resumable};
 ghost use Rattle.resume.specs.Passing.{Passable, Passes};
@@ -25,7 +26,9 @@ pub struct Kept {
 }
 
 // What stands where no search is kept: games keeps eight in an array, and an Option each would be taken apart at every game of the second pass.
-pub fn nothing() -> Kept {
+pub fn nothing() -> Kept
+    ensures { OneOfFour result.running.stop }
+{
     let vacant = Vacant {
         head: NodeID::none(),
         used: 0,
@@ -56,7 +59,8 @@ pub fn nothing() -> Kept {
 // The first pass of a game, in its part of the pool: a search whose budget is the game's share.
 pub fn first(words: &mut [u32], g: Game, s: Settings) -> Kept
     requires { Searchable g.words words.old s }
-    ensures { (p : Position) → Holds p g.words 0 → Accepted p → Stopped p s words.new result }
+    ensures stopped { (p : Position) → Holds p g.words 0 → Accepted p → Stopped p s words.new result }
+    ensures four { OneOfFour result.running.stop }
 {
     let mut path = [0; PLIES];
     let mut positions = [0; POSITIONS];

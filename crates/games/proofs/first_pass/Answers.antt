@@ -26,12 +26,12 @@ first-k-requires c =
 pub overflow_sub-pass : goal.overflow_sub-pass
 overflow_sub-pass c =
     unspent_enough c.loop-i.invariant c.loop-i-test.true _ _ c.first-k.auto.words
-    (stopped-with c.settings_of-s.ensures (c.first-k.ensures _ (record_holds c.loop-i.invariant.from _ _ (IfOk-at_ok _ c.unwrap-root.ensures c.load.ensures.position)) (first_accepted c.loop-i.invariant c.loop-i-test.true)))
+    (stopped-with c.settings_of-s.ensures (c.first-k.ensures.stopped _ (record_holds c.loop-i.invariant.from _ _ (IfOk-at_ok _ c.unwrap-root.ensures c.load.ensures.position)) (first_accepted c.loop-i.invariant c.loop-i-test.true)))
 
 pub loop-i-preserved : goal.loop-i-preserved
 loop-i-preserved c =
     first_next c.loop-i.invariant c.loop-i-test.true _ _ c.first-k.auto.words
-    (stopped-with c.settings_of-s.ensures (c.first-k.ensures _ (record_holds c.loop-i.invariant.from _ _ (IfOk-at_ok _ c.unwrap-root.ensures c.load.ensures.position)) (first_accepted c.loop-i.invariant c.loop-i-test.true))) _ (omega arith)
+    (stopped-with c.settings_of-s.ensures (c.first-k.ensures.stopped _ (record_holds c.loop-i.invariant.from _ _ (IfOk-at_ok _ c.unwrap-root.ensures c.load.ensures.position)) (first_accepted c.loop-i.invariant c.loop-i-test.true))) _ (omega arith)
 
 pub returns : goal.returns
 returns c = first_done _ _ _ _ _ _ _ _ _ _ c.loop-i-test.false c.loop-i.invariant

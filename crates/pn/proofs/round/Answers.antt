@@ -1,6 +1,7 @@
 -- `pn::round` meets its contract, step by step. Assumes nothing.
 use mathlib.Core.Path.{refl}
 use Rattle.pn.specs.Stepping.{stepped_short}
+use Rattle.pn.proofs.Causes.{ticked_four}
 use Rattle.pn.proofs.Rounds.{searched, at_leaf, roomy, short, expandable, climbable, climbed, counter, counted}
 use Rattle.pn.proofs.round.Goals as goal
 
@@ -14,8 +15,8 @@ is_short-requires c =
     let u = c.requires in
     (_, roomy u (at_leaf u c.descend-leaf.ensures))
 
-pub returns-then-is_short : goal.returns-then-is_short
-returns-then-is_short c u =
+pub returns-then-is_short-clause-stepped : goal.returns-then-is_short-clause-stepped
+returns-then-is_short-clause-stepped c u =
     let at = at_leaf u c.descend-leaf.ensures in
     stepped_short u _ _ _ _ at.long at.past at.stands (short u at c.is_short.ensures c.if-is_short.true) refl
 
@@ -38,8 +39,11 @@ tick-requires c =
     let enough = short u at c.is_short.ensures c.if-is_short.false in
     counter u at enough (climbed u at enough c.expand-grown.auto.words c.expand-grown.ensures c.climb-next.auto.words c.climb-next.ensures)
 
-pub returns : goal.returns
-returns c u =
+pub returns-clause-stepped : goal.returns-clause-stepped
+returns-clause-stepped c u =
     let at = at_leaf u c.descend-leaf.ensures in
     let enough = short u at c.is_short.ensures c.if-is_short.false in
     counted u at enough (climbed u at enough c.expand-grown.auto.words c.expand-grown.ensures c.climb-next.auto.words c.climb-next.ensures) c.tick.ensures
+
+pub returns-clause-four : goal.returns-clause-four
+returns-clause-four c = ticked_four _ _ _ _ c.tick.ensures

@@ -19,15 +19,15 @@ phi-phi-requires c = (going_root _ _ _ _ _ _ c.requires.going).slot
 pub delta-delta-requires : goal.delta-delta-requires
 delta-delta-requires c = (going_root _ _ _ _ _ _ c.requires.going).slot
 
-pub returns-then-solved : goal.returns-then-solved
-returns-then-solved c g = stepped_solved g (root_is (goal.at.returns-then-solved c).After-solved g ∙ c.if-solved.true) _ refl refl
+pub returns-then-solved-clause-stepped : goal.returns-then-solved-clause-stepped
+returns-then-solved-clause-stepped c g = stepped_solved g (root_is (goal.at.returns-then-solved-clause-stepped c).After-solved g ∙ c.if-solved.true) _ refl refl
 
-pub returns-then-x-s : goal.returns-then-x-s
-returns-then-x-s c g = stepped_spent g c.if-x-s.true (root_is (goal.at.returns-then-x-s c).After-solved g ∙ c.if-solved.false) _ refl refl refl
+pub returns-then-x-s-clause-stepped : goal.returns-then-x-s-clause-stepped
+returns-then-x-s-clause-stepped c g = stepped_spent g c.if-x-s.true (root_is (goal.at.returns-then-x-s-clause-stepped c).After-solved g ∙ c.if-solved.false) _ refl refl refl
 
 pub round-requires : goal.round-requires
 round-requires c = to_round c.requires (root_is (goal.at.round-requires c).After-solved c.requires ∙ c.if-solved.false) c.if-x-s.false
 
-pub returns : goal.returns
+pub returns-clause-stepped : goal.returns-clause-stepped
 unfolding to_round
-returns c g = c.round.ensures (to_round g (root_is (goal.at.returns c).After-solved g ∙ c.if-solved.false) c.if-x-s.false)
+returns-clause-stepped c g = c.round.ensures.stepped (to_round g (root_is (goal.at.returns-clause-stepped c).After-solved g ∙ c.if-solved.false) c.if-x-s.false)

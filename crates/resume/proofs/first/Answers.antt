@@ -2,6 +2,6 @@
 use mathlib.Core.Path.{◌∙◌}
 use Rattle.resume.proofs.first.Goals as goal
 
-pub returns : goal.returns
-returns c p h a =
-    record { going = (c.start-running.ensures.1 p h a).going; stop = c.start-running.ensures.0; root_is = c.side_to_move-attacker.ensures.0 ∙ h.side }
+pub returns-clause-stopped : goal.returns-clause-stopped
+returns-clause-stopped c p h a =
+    record { going = (c.start-running.ensures.started.1 p h a).going; stop = c.start-running.ensures.started.0; root_is = c.side_to_move-attacker.ensures.0 ∙ h.side }

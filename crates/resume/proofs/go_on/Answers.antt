@@ -6,4 +6,4 @@ pub run-k-requires : goal.run-k-requires
 run-k-requires c = (to_resume c.requires).0
 
 pub returns : goal.returns
-returns c g = resumed g _ _ _ _ c.run-k.ensures.0 c.run-k.ensures.1
+returns c g = resumed g _ _ _ _ c.run-k.ensures.ran.0 c.run-k.ensures.ran.1
